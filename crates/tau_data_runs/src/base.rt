@@ -1,5 +1,5 @@
-use crate::vectors::vector;
-use arrayvec::ArrayVec;
+//! Keys, vectors, texts, lists and calls, against values worked out by hand.
+use crate::support::{call_of, is_same, text_of, vector};
 use std::alloc::Global;
 use std::process::Abort;
 use std::test::*;
@@ -7,10 +7,6 @@ use tau_base::{
     Call, Calls, KeptCall, Key, Listed, Lv, LvList, MAX_LSN, MAX_STREAMS, Name, Text64, Value,
     shard_of, stream_of, worker_of,
 };
-
-fn key(table: u16, row: i64) -> Key {
-    Key { table, row }
-}
 
 #[test]
 fn shards_of_keys(rt: HostRuntime) {
@@ -27,7 +23,7 @@ fn shards_of_keys(rt: HostRuntime) {
     ];
     for (table, row, shard) in rows {
         assert_eq!(rt;
-            shard_of(key(table, row)),
+            shard_of(Key { table, row }),
             shard,
             "table {table}, row {row}"
         );
@@ -43,55 +39,62 @@ fn vectors_have_their_positions(rt: HostRuntime) {
     assert_eq!(rt; a.position(5), 0);
 }
 
-/// Whether two vectors join to this one.
-fn join_to(rt: &impl Abort, a: &[u64], b: &[u64], both: &[u64]) -> bool {
-    vector(rt, a).join(&vector(rt, b)) == vector(rt, both)
-}
-
-/// The middle one of three positions is this.
-fn has_middle(rt: &impl Abort, lv: &Lv, position: u64) {
-    assert!(rt; 1 < lv.width());
-    assert_eq!(rt; lv.get(1), position);
-}
-
-fn set_middle(rt: &impl Abort, lv: &mut Lv, position: u64) {
+/// These positions, with another one for stream 1.
+fn with_middle(rt: &impl Abort, parts: &[u64], position: u64) -> Lv {
+    let mut lv = vector(rt, parts);
     assert!(rt; 1 < lv.width() && position < MAX_LSN);
     lv.set(1, position);
+    assert_eq!(rt; lv.get(1), position);
+    lv
 }
 
 #[test]
 fn vectors_join_and_cover(rt: HostRuntime) {
-    let a = vector(&rt, &[53, 0, 0]);
-    let mut b = vector(&rt, &[0, 0, 61]);
-    assert!(rt; !a.covers(&b));
-    assert!(rt; join_to(&rt, &[53, 0, 0], &[0, 0, 0, 0, 0], &[53, 0, 0, 0, 0]));
-    let both = a.join(&b);
-    assert!(rt; both.covers(&a));
-    assert!(rt; both.covers(&b));
-    has_middle(&rt, &both, 0);
-    b.raise(&a);
-    assert!(rt; b == both);
-    set_middle(&rt, &mut b, 13);
-    assert!(rt; b != both);
+    // Two vectors, and what they join to.
+    let rows = [
+        (
+            [53, 0, 0].as_slice(),
+            [0, 0, 0, 0, 0].as_slice(),
+            [53, 0, 0, 0, 0].as_slice(),
+        ),
+        (&[53, 0, 0], &[0, 0, 61], &[53, 0, 61]),
+    ];
+    for (a, b, both) in rows {
+        joins(&rt, &vector(&rt, a), &vector(&rt, b), &vector(&rt, both));
+    }
+    assert!(rt; !vector(&rt, &[53, 0, 0]).covers(&vector(&rt, &[0, 0, 61])));
+    assert!(rt; with_middle(&rt, &[53, 0, 61], 13) != vector(&rt, &[53, 0, 61]));
 }
 
-/// Positions that rise from stream to stream.
-const UP: [u64; 32] = [
+static RISING: [u64; 32] = [
     1, 2, 3, 4, 5, 6, 7, 8, 9, 10, 11, 12, 13, 14, 15, 16, 17, 18, 19, 20, 21, 22, 23, 24, 25, 26,
     27, 28, 29, 30, 31, 32,
 ];
 
-/// Positions that fall from stream to stream.
-const DOWN: [u64; 32] = [
+/// Positions that rise from stream to stream.
+fn rising() -> &'static [u64] {
+    &RISING
+}
+
+static FALLING: [u64; 32] = [
     32, 31, 30, 29, 28, 27, 26, 25, 24, 23, 22, 21, 20, 19, 18, 17, 16, 15, 14, 13, 12, 11, 10, 9,
     8, 7, 6, 5, 4, 3, 2, 1,
 ];
 
-/// The greater one of both in each stream.
-const BOTH: [u64; 32] = [
+/// Positions that fall from stream to stream.
+fn falling() -> &'static [u64] {
+    &FALLING
+}
+
+static GREATER: [u64; 32] = [
     32, 31, 30, 29, 28, 27, 26, 25, 24, 23, 22, 21, 20, 19, 18, 17, 17, 18, 19, 20, 21, 22, 23, 24,
     25, 26, 27, 28, 29, 30, 31, 32,
 ];
+
+/// The greater one of both in each stream.
+fn greater() -> &'static [u64] {
+    &GREATER
+}
 
 /// The vector of the first so many of these positions.
 fn first_of(rt: &impl Abort, parts: &[u64], width: usize) -> Lv {
@@ -123,26 +126,26 @@ const WIDTHS: [usize; 13] = [32, 1, 16, 17, 1, 17, 16, 32, 16, 1, 32, 17, 32];
 fn vectors_are_copied_over_other_widths(rt: HostRuntime) {
     let mut place = Lv::zero(32);
     for width in WIDTHS {
-        becomes(&rt, &mut place, &first_of(&rt, &DOWN, width));
+        becomes(&rt, &mut place, &first_of(&rt, falling(), width));
     }
     for width in WIDTHS {
-        becomes(&rt, &mut place, &first_of(&rt, &UP, width));
-        becomes(&rt, &mut place, &first_of(&rt, &DOWN, width));
+        becomes(&rt, &mut place, &first_of(&rt, rising(), width));
+        becomes(&rt, &mut place, &first_of(&rt, falling(), width));
     }
 }
 
 #[test]
 fn vectors_become_zero_over_other_widths(rt: HostRuntime) {
     for width in [1usize, 16, 17, 32] {
-        let mut place = first_of(&rt, &UP, width);
+        let mut place = first_of(&rt, rising(), width);
         for wanted in WIDTHS {
             becomes_zero(&rt, &mut place, wanted);
         }
     }
-    let mut place = first_of(&rt, &UP, 32);
+    let mut place = first_of(&rt, rising(), 32);
     for width in WIDTHS {
         becomes_zero(&rt, &mut place, width);
-        becomes(&rt, &mut place, &first_of(&rt, &UP, width));
+        becomes(&rt, &mut place, &first_of(&rt, rising(), width));
     }
 }
 
@@ -159,7 +162,7 @@ fn joins(rt: &impl Abort, a: &Lv, b: &Lv, both: &Lv) {
     assert!(rt; raised == *both);
 }
 
-/// What the first so many positions of `UP` and of `DOWN` join to: the first so many of `BOTH`, and then the others of the
+/// What the first so many positions of `rising` and of `falling` join to: the first so many of `greater`, and then the others of the
 /// wider one.
 const JOINED: [(usize, usize, usize); 10] = [
     (32, 32, 32),
@@ -174,10 +177,10 @@ const JOINED: [(usize, usize, usize); 10] = [
     (17, 17, 17),
 ];
 
-/// The vector whose first positions are those of `BOTH`, and whose others are those of another list.
+/// The vector whose first positions are those of `greater`, and whose others are those of another list.
 fn first_joined(rt: &impl Abort, common: usize, others: &[u64], width: usize) -> Lv {
     let mut out = first_of(rt, others, width);
-    for (j, part) in BOTH.iter().enumerate() {
+    for (j, part) in greater().iter().enumerate() {
         assert!(rt; *part < MAX_LSN);
         if j < common && j < out.width() {
             out.set(j, *part);
@@ -189,30 +192,30 @@ fn first_joined(rt: &impl Abort, common: usize, others: &[u64], width: usize) ->
 #[test]
 fn vectors_of_all_widths_join(rt: HostRuntime) {
     for (up, down, common) in JOINED {
-        let a = first_of(&rt, &UP, up);
-        let b = first_of(&rt, &DOWN, down);
+        let a = first_of(&rt, rising(), up);
+        let b = first_of(&rt, falling(), down);
         let both = if up < down {
-            first_joined(&rt, common, &DOWN, down)
+            first_joined(&rt, common, falling(), down)
         } else {
-            first_joined(&rt, common, &UP, up)
+            first_joined(&rt, common, rising(), up)
         };
         joins(&rt, &a, &b, &both);
     }
 }
 
-/// Whether the first so many positions of `BOTH` cover so many of `UP`.
+/// Whether the first so many positions of `greater` cover so many of `rising`.
 fn covers_up(rt: &impl Abort, width: usize, up: usize, wanted: bool) {
-    let both = first_of(rt, &BOTH, width);
-    assert_eq!(rt; both.covers(&first_of(rt, &UP, up)), wanted);
+    let both = first_of(rt, greater(), width);
+    assert_eq!(rt; both.covers(&first_of(rt, rising(), up)), wanted);
 }
 
 // A vector has zeros beyond its end.
 #[test]
 fn wider_vectors_are_covered_up_to_their_zeros(rt: HostRuntime) {
-    let mut zeros = first_of(&rt, &UP, 16);
+    let mut zeros = first_of(&rt, rising(), 16);
     zeros.raise(&Lv::zero(32));
-    assert!(rt; first_of(&rt, &UP, 16).covers(&zeros));
-    assert!(rt; zeros.covers(&first_of(&rt, &UP, 16)));
+    assert!(rt; first_of(&rt, rising(), 16).covers(&zeros));
+    assert!(rt; zeros.covers(&first_of(&rt, rising(), 16)));
     for (width, up, wanted) in [
         (32usize, 32usize, true),
         (32, 1, true),
@@ -226,51 +229,57 @@ fn wider_vectors_are_covered_up_to_their_zeros(rt: HostRuntime) {
     }
 }
 
-/// This is a text, or none.
-fn is_text(rt: &impl Abort, bytes: &str, wanted: bool) {
-    let text = Text64::of(bytes);
-    assert_eq!(rt; text.is_some(), wanted);
-    if let Some(text) = text {
-        assert_eq!(rt; text.copied().as_str(), bytes);
-    }
-}
-
-/// This is a name, or none.
-fn is_name(rt: &impl Abort, bytes: &str, wanted: bool) {
-    let name = Name::of(bytes);
-    assert_eq!(rt; name.is_some(), wanted);
-    if let Some(name) = name {
-        assert_eq!(rt; name.copied().as_str(), bytes);
-    }
-}
-
 #[test]
 fn texts_and_names_have_their_limits(rt: HostRuntime) {
-    let xs = "xxxxxxxxxxxxxxxxxxxxxxxxxxxxxxxxxxxxxxxxxxxxxxxxxxxxxxxxxxxxxxxx";
-    assert_eq!(rt; xs.len(), 64);
-    is_text(&rt, xs, true);
-    is_text(
-        &rt,
-        "xxxxxxxxxxxxxxxxxxxxxxxxxxxxxxxxxxxxxxxxxxxxxxxxxxxxxxxxxxxxxxxxx",
-        false,
-    );
-    is_name(&rt, "abcdefghijklmnop", true);
-    is_name(&rt, "abcdefghijklmnopq", false);
-    is_name(&rt, "", false);
+    let longest = "xxxxxxxxxxxxxxxxxxxxxxxxxxxxxxxxxxxxxxxxxxxxxxxxxxxxxxxxxxxxxxxx";
+    assert_eq!(rt; longest.len(), 64);
+    // Texts, and whether each is one.
+    let texts = [
+        (longest, true),
+        (
+            "xxxxxxxxxxxxxxxxxxxxxxxxxxxxxxxxxxxxxxxxxxxxxxxxxxxxxxxxxxxxxxxxx",
+            false,
+        ),
+    ];
+    for (text, wanted) in texts {
+        assert!(rt; is_text(text) == wanted, "{text}");
+    }
+    let names = [
+        ("abcdefghijklmnop", true),
+        ("abcdefghijklmnopq", false),
+        ("", false),
+    ];
+    for (name, wanted) in names {
+        assert!(rt; is_name(name) == wanted, "{name}");
+    }
 }
 
-/// A value of this text.
-fn text(bytes: &str) -> Result<Value, Fail> {
-    Ok(Value::Text(Text64::of(bytes).ok_or("it fits")?))
+/// Whether this is a text, which comes back as it was put.
+fn is_text(text: &str) -> bool {
+    match Text64::of(text) {
+        Some(kept) => kept.copied().as_str() == text,
+        None => false,
+    }
+}
+
+/// Whether this is a name, which comes back as it was put.
+fn is_name(name: &str) -> bool {
+    match Name::of(name) {
+        Some(kept) => kept.copied().as_str() == name,
+        None => false,
+    }
 }
 
 #[test]
-fn values_are_the_same_or_not(rt: HostRuntime) -> Result<(), Fail> {
-    let value = text("xxxxxxxxxxxxxxxxxxxxxxxxxxxxxxxxxxxxxxxxxxxxxxxxxxxxxxxxxxxxxxxx")?;
+fn values_are_the_same_or_not(rt: HostRuntime) {
+    let text = text_of(
+        &rt,
+        "xxxxxxxxxxxxxxxxxxxxxxxxxxxxxxxxxxxxxxxxxxxxxxxxxxxxxxxxxxxxxxxx",
+    );
+    let value = Value::Text(text);
     assert!(rt; value.copied().is_same(&value));
     assert!(rt; !value.is_same(&Value::Absent));
     assert!(rt; !Value::Int(0).is_same(&Value::Absent));
-    Ok(())
 }
 
 fn push(list: &mut Listed<u64>, number: u64) -> Result<(), Fail> {
@@ -299,15 +308,24 @@ fn lists_begin_with_room(rt: HostRuntime) -> Result<(), Fail> {
     Ok(())
 }
 
-fn call(proc: u16, args: &[i64]) -> Call {
-    let mut call = Call {
-        proc,
-        args: ArrayVec::new(),
-    };
-    for arg in args.iter().take(8) {
-        let _ = call.args.try_push(Value::Int(*arg));
+/// What stands after a call's numbers.
+#[derive(Drop)]
+enum Last<'a> {
+    Nothing,
+    Absent,
+    Text(&'a str),
+}
+
+/// A call: its procedure, the numbers that are its arguments, and what stands after them.
+type Row<'a> = (u16, &'a [i64], Last<'a>);
+
+fn call_in(rt: &impl Abort, row: &Row<'_>) -> Call {
+    let call = call_of(row.0, row.1);
+    match row.2 {
+        Last::Nothing => call,
+        Last::Absent => with(call, Value::Absent),
+        Last::Text(text) => with(call, Value::Text(text_of(rt, text))),
     }
-    call
 }
 
 /// The call with one more argument.
@@ -316,83 +334,72 @@ fn with(mut call: Call, value: Value) -> Call {
     call
 }
 
-/// The call at this index comes back as it was put, into a place and as a value.
-fn comes_back(rt: &impl Abort, calls: &Calls, i: usize, put: &Call, place: &mut Call) {
-    assert!(rt; i < calls.len());
-    calls.put_into(i, place);
-    is_call(rt, place, put);
-    is_call(rt, &calls.call_at(i).copied(), put);
+fn calls_in(rt: &impl Abort, alloc: Global, rows: &[Row<'_>]) -> Result<Calls, Fail> {
+    let mut calls = Calls::new(alloc);
+    for row in rows {
+        calls.push(&call_in(rt, row))?;
+    }
+    assert_eq!(rt; calls.len(), rows.len());
+    Ok(calls)
 }
 
-fn is_call(rt: &impl Abort, call: &Call, put: &Call) {
-    assert_eq!(rt; call.proc, put.proc);
-    assert!(rt; call.args.as_slice() == put.args.as_slice());
+/// Whether the call at this index comes back as it was put: lent, as a value, and into a place.
+fn comes_back(rt: &impl Abort, calls: &Calls, i: usize, put: &Call, place: &mut Call) -> bool {
+    assert!(rt; i < calls.len());
+    calls.put_into(i, place);
+    is_same(place, put)
+        && is_same(&calls.call_at(i).copied(), put)
+        && is_same(&calls.at(i).call(), put)
 }
 
 /// A call that is kept alone comes back as it was put.
 fn keeps(rt: &impl Abort, alloc: Global, put: &Call) -> Result<(), Fail> {
-    let kept = KeptCall::of(alloc, put).ok().ok_or("there is room")?;
-    is_call(rt, &kept.call(), put);
+    let kept = KeptCall::of(alloc, put)?;
+    assert!(rt; is_same(&kept.call(), put));
     Ok(())
 }
 
-fn push_call(calls: &mut Calls, call: &Call) -> Result<(), Fail> {
-    calls.push(call).ok().ok_or("there is room")?;
-    Ok(())
-}
-
-fn copied(rt: &impl Abort, alloc: Global, calls: &Calls) -> Result<Calls, Fail> {
-    let copy = calls.copied(alloc).ok().ok_or("there is room")?;
+/// All of these calls come back as they were put, from their list and from a copy.
+fn come_back(rt: &impl Abort, alloc: Global, rows: &[Row<'_>]) -> Result<(), Fail> {
+    let calls = calls_in(rt, alloc, rows)?;
+    let copy = calls.copied(alloc)?;
     assert_eq!(rt; copy.len(), calls.len());
-    Ok(copy)
+    let mut place = call_of(9, &[9, 9, 9, 9]);
+    for (i, row) in rows.iter().enumerate() {
+        let put = call_in(rt, row);
+        assert!(rt; comes_back(rt, &calls, i, &put, &mut place), "row {i}");
+        assert!(rt;
+            comes_back(rt, &copy, i, &put, &mut place),
+            "copy of row {i}"
+        );
+        keeps(rt, alloc, &put)?;
+    }
+    Ok(())
 }
 
 /// Calls of few whole numbers, and calls with more arguments or others.
-fn calls_of_each_kind() -> Result<[Call; 6], Fail> {
-    let five = text("five")?;
-    Ok([
-        call(1, &[0, 65, -3]),
-        call(2, &[3, i64::MIN]),
-        call(6, &[]),
-        with(call(0, &[0, 5]), five),
-        with(call(4, &[]), Value::Absent),
-        call(5, &[1, 2, 3, 4, 5, 6, 7, -8]),
-    ])
-}
-
 #[test]
 fn calls_come_back_as_they_were_put(rt: HostRuntime) -> Result<(), Fail> {
-    let put = calls_of_each_kind()?;
-    let mut calls = Calls::new(rt.alloc());
-    for call in &put {
-        push_call(&mut calls, call)?;
-    }
-    assert_eq!(rt; calls.len(), 6);
-    let copy = copied(&rt, rt.alloc(), &calls)?;
-    let mut place = call(9, &[9, 9, 9, 9]);
-    for (i, call) in put.iter().enumerate() {
-        comes_back(&rt, &copy, i, call, &mut place);
-        keeps(&rt, rt.alloc(), call)?;
-    }
-    Ok(())
-}
-
-/// The call at this index is this one.
-fn is_at(rt: &impl Abort, calls: &Calls, i: usize, put: &Call) {
-    assert!(rt; i < calls.len());
-    is_call(rt, &calls.at(i).call(), put);
+    let rows = [
+        (1, [0, 65, -3].as_slice(), Last::Nothing),
+        (2, &[3, i64::MIN], Last::Nothing),
+        (6, &[], Last::Nothing),
+        (0, &[0, 5], Last::Text("five")),
+        (4, &[], Last::Absent),
+        (5, &[1, 2, 3, 4, 5, 6, 7, -8], Last::Nothing),
+    ];
+    come_back(&rt, rt.alloc(), &rows)
 }
 
 // The second call of three, of few whole numbers, and the third, with a text.
 #[test]
 fn calls_are_found_by_their_place(rt: HostRuntime) -> Result<(), Fail> {
-    let mut calls = Calls::new(rt.alloc());
-    push_call(&mut calls, &call(6, &[]))?;
-    push_call(&mut calls, &call(1, &[0, 65, -3]))?;
-    push_call(&mut calls, &with(call(0, &[0, 5]), text("five")?))?;
-    is_at(&rt, &calls, 1, &call(1, &[0, 65, -3]));
-    is_at(&rt, &calls, 2, &with(call(0, &[0, 5]), text("five")?));
-    Ok(())
+    let rows = [
+        (6, [].as_slice(), Last::Nothing),
+        (1, &[0, 65, -3], Last::Nothing),
+        (0, &[0, 5], Last::Text("five")),
+    ];
+    come_back(&rt, rt.alloc(), &rows)
 }
 
 /// The vector (53,61), and after it (0,0,77), 32 positions and (1,2) of another list.
@@ -403,7 +410,7 @@ fn of_two_lists(rt: &impl Abort, alloc: Global) -> Result<LvList, Fail> {
     let mut others = LvList::new(alloc);
     others.reserve(3)?;
     others.push_reserved(&vector(rt, &[0, 0, 77]));
-    others.push_reserved(&vector(rt, &UP));
+    others.push_reserved(&vector(rt, rising()));
     others.push_reserved(&vector(rt, &[1, 2]));
     list.append(others);
     Ok(list)
@@ -423,34 +430,52 @@ fn is_vector(rt: &impl Abort, list: &LvList, i: usize, parts: &[u64]) {
 fn vectors_are_kept_flat(rt: HostRuntime) -> Result<(), Fail> {
     let list = of_two_lists(&rt, rt.alloc())?;
     assert_eq!(rt; list.len(), 4);
-    is_vector(&rt, &list, 0, &[53, 61]);
-    is_vector(&rt, &list, 1, &[0, 0, 77]);
-    is_vector(&rt, &list, 2, &UP);
-    is_vector(&rt, &list, 3, &[1, 2]);
+    let rows = [[53, 61].as_slice(), &[0, 0, 77], rising(), &[1, 2]];
+    for (i, parts) in rows.iter().enumerate() {
+        is_vector(&rt, &list, i, parts);
+    }
     Ok(())
 }
 
-// Calls 1 to 7 over 3 workers, and 5 workers over 2 streams.
 #[test]
-fn calls_and_records_are_dealt_in_turn(rt: HostRuntime) {
-    let workers = [0usize, 1, 2, 0, 1, 2, 0];
-    for (before, worker) in workers.iter().enumerate() {
-        assert_eq!(rt; worker_of(before as u64 + 1, 3), *worker);
-    }
-    let streams = [0usize, 1, 0, 1, 0];
-    for (worker, stream) in streams.iter().enumerate() {
-        assert_eq!(rt; stream_of(worker, 2), *stream);
-    }
-    // A call over 32 workers, and its worker over 17 streams.
+fn calls_are_dealt_in_turn(rt: HostRuntime) {
+    // The call, of how many workers, and which one has it.
     let rows = [
-        (1u64, 0usize, 0usize),
-        (17, 16, 16),
-        (18, 17, 0),
-        (32, 31, 14),
-        (33, 0, 0),
+        (1, 3, 0),
+        (2, 3, 1),
+        (3, 3, 2),
+        (4, 3, 0),
+        (5, 3, 1),
+        (6, 3, 2),
+        (7, 3, 0),
+        (1, 32, 0),
+        (17, 32, 16),
+        (18, 32, 17),
+        (32, 32, 31),
+        (33, 32, 0),
     ];
-    for (call, worker, stream) in rows {
-        assert_eq!(rt; worker_of(call, 32), worker);
-        assert_eq!(rt; stream_of(worker, 17), stream);
+    for (call, workers, worker) in rows {
+        assert!(rt; 1 <= workers);
+        assert_eq!(rt; worker_of(call, workers), worker, "call {call}");
+    }
+}
+
+#[test]
+fn records_are_dealt_in_turn(rt: HostRuntime) {
+    // The worker, of how many streams, and which one has its records.
+    let rows = [
+        (0, 2, 0),
+        (1, 2, 1),
+        (2, 2, 0),
+        (3, 2, 1),
+        (4, 2, 0),
+        (0, 17, 0),
+        (16, 17, 16),
+        (17, 17, 0),
+        (31, 17, 14),
+    ];
+    for (worker, streams, stream) in rows {
+        assert!(rt; 1 <= streams);
+        assert_eq!(rt; stream_of(worker, streams), stream, "worker {worker}");
     }
 }

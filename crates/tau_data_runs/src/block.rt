@@ -1,3 +1,4 @@
+//! Images: how blocks are written, and what is found in them, against bytes spelled by hand.
 use std::alloc::Global;
 use std::process::Abort;
 use std::test::*;
@@ -8,22 +9,33 @@ use tau_block::{
 
 // The log of a stream of one: the catalogue of `table a`, and the data record of `put a 1 5`. Its gates are at 16, 34
 // and 79.
-const LOG: [u8; 80] = [
+static LOG: [u8; 80] = [
     84, 65, 85, 82, 85, 83, 45, 76, 79, 71, 45, 49, 0, 1, 0, 0, 1, 0, 0, 0, 13, 4, 0, 0, 0, 13,
     116, 97, 98, 108, 101, 32, 97, 10, 1, 0, 0, 0, 40, 1, 0, 0, 0, 40, 0, 0, 0, 0, 0, 0, 0, 1, 0,
     0, 0, 0, 0, 0, 0, 1, 0, 0, 0, 0, 0, 0, 0, 0, 0, 1, 1, 0, 0, 0, 0, 0, 0, 0, 5, 0,
 ];
 
+fn log() -> &'static [u8] {
+    &LOG
+}
+
 // The log of stream 0 of two in format 2: the same catalogue, and the same record with its wider mask. Its gates are at
 // 16, 34 and 81.
-const WIDE_LOG: [u8; 82] = [
+static WIDE_LOG: [u8; 82] = [
     84, 65, 85, 82, 85, 83, 45, 76, 79, 71, 45, 50, 0, 2, 0, 0, 1, 0, 0, 0, 13, 4, 0, 0, 0, 13,
     116, 97, 98, 108, 101, 32, 97, 10, 1, 0, 0, 0, 42, 1, 0, 0, 0, 42, 0, 0, 0, 0, 0, 0, 0, 1, 0,
     0, 0, 0, 0, 0, 0, 0, 0, 1, 0, 0, 0, 0, 0, 0, 0, 0, 0, 1, 1, 0, 0, 0, 0, 0, 0, 0, 5, 0,
 ];
 
-// What is found in an image: the number of streams and the place of the closed gate, or the number of the cause.
-fn found(alloc: Global, image: &[u8], j: u16) -> (u16, u64, usize, u8) {
+fn wide_log() -> &'static [u8] {
+    &WIDE_LOG
+}
+
+/// The number of streams, the place of the closed gate, the size of the content, and the number of the cause.
+type Found = (u16, u64, usize, u8);
+
+// What is found in an image, or the number of the cause alone.
+fn found(alloc: Global, image: &[u8], j: u16) -> Found {
     match contents_of(alloc, image, j) {
         Ok(content) => (
             content.count.unwrap_or(0),
@@ -60,10 +72,19 @@ fn open(rt: &impl Abort, image: &mut [u8], gate: usize) {
     image[gate] = open_gate()[0];
 }
 
-/// Puts a block behind the closed gate at `gate`, and then opens that gate.
-fn append(rt: &impl Abort, image: &mut Vec<u8>, gate: usize, body: &[u8]) -> Result<(), Fail> {
-    append_closed(rt, image, body)?;
-    open(rt, image.as_mut_slice(), gate);
+/// This image becomes the log when its blocks are put behind it and its gates are opened: where the gate stands, and where
+/// in the log its body begins and ends.
+fn becomes(
+    rt: &impl Abort,
+    image: &mut Vec<u8>,
+    log: &[u8],
+    blocks: &[(usize, usize, usize)],
+) -> Result<(), Fail> {
+    for (gate, from, past) in blocks {
+        append_closed(rt, image, part(rt, log, *from, *past))?;
+        open(rt, image.as_mut_slice(), *gate);
+    }
+    assert_eq!(rt; image.as_slice(), log);
     Ok(())
 }
 
@@ -75,43 +96,41 @@ fn change(rt: &impl Abort, image: &mut [u8], changes: &[(usize, u8)]) {
     }
 }
 
-/// What is found in the log with these bytes changed.
+/// What is found in a log with these bytes changed.
 fn found_changed(
     rt: &impl Abort,
     alloc: Global,
+    log: &[u8],
     changes: &[(usize, u8)],
     j: u16,
-) -> (u16, u64, usize, u8) {
-    let mut image = LOG;
-    change(rt, &mut image, changes);
-    found(alloc, &image, j)
+) -> Result<Found, Fail> {
+    let mut image = log.to_vec(alloc)?;
+    change(rt, image.as_mut_slice(), changes);
+    Ok(found(alloc, image.as_slice(), j))
 }
 
-/// What is found in the log of format 2 with these bytes changed.
-fn found_changed_wide(
-    rt: &impl Abort,
-    alloc: Global,
-    changes: &[(usize, u8)],
-    j: u16,
-) -> (u16, u64, usize, u8) {
-    let mut image = WIDE_LOG;
-    change(rt, &mut image, changes);
-    found(alloc, &image, j)
-}
+/// The header in format 1 of stream 1 of 2.
+static HEADER: [u8; 17] = [
+    84, 65, 85, 82, 85, 83, 45, 76, 79, 71, 45, 49, 0, 2, 0, 1, 0,
+];
 
 #[test]
 fn images_are_written(rt: HostRuntime) -> Result<(), Fail> {
+    assert!(rt; header(2, 1) == HEADER);
     let mut image = header(1, 0).to_vec(rt.alloc())?;
-    append(&rt, &mut image, 16, part(&rt, &LOG, 21, 34))?;
-    append(&rt, &mut image, 34, part(&rt, &LOG, 39, 79))?;
-    assert_eq!(rt; image.as_slice(), LOG.as_slice());
-    assert_eq!(rt;
-        header(2, 1),
-        [
-            84, 65, 85, 82, 85, 83, 45, 76, 79, 71, 45, 49, 0, 2, 0, 1, 0
-        ]
-    );
-    Ok(())
+    becomes(&rt, &mut image, log(), &[(16, 21, 34), (34, 39, 79)])
+}
+
+/// The header in format 2 of stream 31 of 32.
+static WIDE_HEADER: [u8; 17] = [
+    84, 65, 85, 82, 85, 83, 45, 76, 79, 71, 45, 50, 0, 32, 0, 31, 0,
+];
+
+#[test]
+fn images_of_format_2_are_written(rt: HostRuntime) -> Result<(), Fail> {
+    assert!(rt; header_wide(32, 31) == WIDE_HEADER);
+    let mut image = header_wide(2, 0).to_vec(rt.alloc())?;
+    becomes(&rt, &mut image, wide_log(), &[(16, 21, 34), (34, 39, 81)])
 }
 
 /// The bytes of the content are those of both blocks of the log.
@@ -123,24 +142,29 @@ fn are_both(rt: &impl Abort, bytes: &[u8], log: &[u8]) {
 
 #[test]
 fn closed_gates_end_the_content(rt: HostRuntime) -> Result<(), Fail> {
-    let content = contents_of(rt.alloc(), &LOG, 0)?;
+    let content = contents_of(rt.alloc(), log(), 0)?;
     assert_eq!(rt; content.count, Some(1));
     assert_eq!(rt; content.gate_at, 79);
-    are_both(&rt, content.bytes.as_slice(), &LOG);
+    are_both(&rt, content.bytes.as_slice(), log());
     Ok(())
 }
 
 #[test]
-fn gates_end_the_content(rt: HostRuntime) {
-    let alloc = rt.alloc();
-    for gate in [0u8, 2, 7, 255] {
-        let seen = found_changed(&rt, alloc, &[(34, gate)], 0);
+fn gates_end_the_content(rt: HostRuntime) -> Result<(), Fail> {
+    for gate in [0, 2, 7, 255] {
+        let seen = found_changed(&rt, rt.alloc(), log(), &[(34, gate)], 0)?;
         assert_eq!(rt; seen, (1, 34, 13, 0), "gate {gate}");
     }
-    let mut image = LOG;
-    image[34] = 0;
-    image[35..].fill(1);
-    assert_eq!(rt; found(alloc, &image, 0), (1, 34, 13, 0));
+    Ok(())
+}
+
+#[test]
+fn what_stands_after_a_closed_gate_is_not_read(rt: HostRuntime) -> Result<(), Fail> {
+    let mut image = first(&rt, log(), 35).to_vec(rt.alloc())?;
+    change(&rt, image.as_mut_slice(), &[(34, 0)]);
+    image.extend_from_slice(&[1; 45])?;
+    assert_eq!(rt; found(rt.alloc(), image.as_slice(), 0), (1, 34, 13, 0));
+    Ok(())
 }
 
 /// Nothing but the first gate is found in these bytes.
@@ -153,14 +177,14 @@ fn are_unborn(rt: &impl Abort, alloc: Global, image: &[u8], j: u16) {
 fn short_images_are_unborn(rt: HostRuntime) {
     let alloc = rt.alloc();
     for size in 0usize..18 {
-        are_unborn(&rt, alloc, first(&rt, &LOG, size), 0);
-        are_unborn(&rt, alloc, first(&rt, &[1u8; 17], size.min(17)), 5);
+        are_unborn(&rt, alloc, first(&rt, log(), size), 0);
+        are_unborn(&rt, alloc, first(&rt, &[1; 17], size.min(17)), 5);
     }
     assert_eq!(rt; found(alloc, &[0u8; 18], 0), (0, 0, 0, 1));
 }
 
 /// Where a byte of the log is changed, to what, and the number of the cause.
-const CHANGES: [(usize, u8, u8); 13] = [
+static CHANGES: [(usize, u8, u8); 13] = [
     (0, 0, 1),
     (11, 51, 1),
     (12, 1, 2),
@@ -176,45 +200,54 @@ const CHANGES: [(usize, u8, u8); 13] = [
     (79, 1, 4),
 ];
 
+/// The log with a byte changed, or cut to so many bytes, has the cause of this number.
+fn has_cause(
+    rt: &impl Abort,
+    alloc: Global,
+    log: &[u8],
+    row: &(usize, u8, u8),
+) -> Result<(), Fail> {
+    let (at, byte, cause) = *row;
+    let seen = found_changed(rt, alloc, log, &[(at, byte)], 0)?;
+    assert_eq!(rt; seen, (0, 0, 0, cause), "byte {at} set to {byte}");
+    Ok(())
+}
+
 #[test]
-fn causes_in_their_order(rt: HostRuntime) {
-    let alloc = rt.alloc();
-    for (at, byte, cause) in CHANGES {
-        let seen = found_changed(&rt, alloc, &[(at, byte)], 0);
-        assert_eq!(rt; seen, (0, 0, 0, cause), "byte {at} set to {byte}");
+fn causes_in_their_order(rt: HostRuntime) -> Result<(), Fail> {
+    for row in &CHANGES {
+        has_cause(&rt, rt.alloc(), log(), row)?;
     }
-    for size in [18usize, 20, 21, 33, 34, 39, 78, 79] {
-        let seen = found(alloc, first(&rt, &LOG, size), 0);
+    Ok(())
+}
+
+#[test]
+fn logs_that_are_cut(rt: HostRuntime) {
+    for size in [18, 20, 21, 33, 34, 39, 78, 79] {
+        let seen = found(rt.alloc(), first(&rt, log(), size), 0);
         assert_eq!(rt; seen, (0, 0, 0, 4), "cut to {size} bytes");
     }
 }
 
 // Of several causes the first one that is looked for is told. Bytes 13 and 15 are the number of streams and the stream.
 #[test]
-fn the_first_of_several_causes(rt: HostRuntime) {
-    let alloc = rt.alloc();
+fn the_first_of_several_causes(rt: HostRuntime) -> Result<(), Fail> {
     let rows = [
-        (
-            [(13usize, 16u8), (15, 15), (15, 15)],
-            15u16,
-            (16, 79, 53, 0),
-        ),
+        ([(13, 16), (15, 15), (15, 15)], 15, (16, 79, 53, 0)),
         ([(13, 16), (15, 15), (15, 15)], 14, (0, 0, 0, 3)),
         ([(13, 15), (15, 15), (15, 15)], 15, (0, 0, 0, 3)),
         ([(13, 0), (15, 15), (15, 15)], 0, (0, 0, 0, 2)),
         ([(13, 0), (15, 15), (0, 0)], 0, (0, 0, 0, 1)),
     ];
     for (changes, j, wanted) in rows {
-        assert_eq!(rt; found_changed(&rt, alloc, &changes, j), wanted);
+        let seen = found_changed(&rt, rt.alloc(), log(), &changes, j)?;
+        assert_eq!(rt; seen, wanted, "stream {j}");
     }
+    Ok(())
 }
 
 /// The image of stream 2 of three with this body, before its gate is opened and after.
-fn found_both(
-    rt: &impl Abort,
-    alloc: Global,
-    body: &[u8],
-) -> Result<[(u16, u64, usize, u8); 2], Fail> {
+fn found_both(rt: &impl Abort, alloc: Global, body: &[u8]) -> Result<[Found; 2], Fail> {
     let mut image = header(3, 2).to_vec(alloc)?;
     append_closed(rt, &mut image, body)?;
     let closed = found(alloc, image.as_slice(), 2);
@@ -236,52 +269,47 @@ fn bodies_of_all_sizes(rt: HostRuntime) -> Result<(), Fail> {
 }
 
 #[test]
-fn images_of_format_2_are_written(rt: HostRuntime) -> Result<(), Fail> {
-    let mut image = header_wide(2, 0).to_vec(rt.alloc())?;
-    append(&rt, &mut image, 16, part(&rt, &WIDE_LOG, 21, 34))?;
-    append(&rt, &mut image, 34, part(&rt, &WIDE_LOG, 39, 81))?;
-    assert_eq!(rt; image.as_slice(), WIDE_LOG.as_slice());
-    assert_eq!(rt;
-        header_wide(32, 31),
-        [
-            84, 65, 85, 82, 85, 83, 45, 76, 79, 71, 45, 50, 0, 32, 0, 31, 0
-        ]
-    );
+fn a_wide_content_is_read(rt: HostRuntime) -> Result<(), Fail> {
+    let content = contents_of(rt.alloc(), wide_log(), 0)?;
+    assert_eq!(rt; content.count, Some(2));
+    assert_eq!(rt; content.gate_at, 81);
+    assert_eq!(rt; content.bytes.len(), 55);
     Ok(())
 }
 
 #[test]
 fn a_content_states_its_format(rt: HostRuntime) -> Result<(), Fail> {
-    let content = contents_of(rt.alloc(), &WIDE_LOG, 0)?;
-    assert!(rt; content.format == Some(Format::Two));
-    assert_eq!(rt; content.count, Some(2));
-    assert_eq!(rt; content.gate_at, 81);
-    assert_eq!(rt; content.bytes.len(), 55);
-    assert!(rt; contents_of(rt.alloc(), &LOG, 0)?.format == Some(Format::One));
-    assert!(rt; contents_of(rt.alloc(), first(&rt, &WIDE_LOG, 17), 0)?.format == None);
-    assert!(rt; stated_format(&WIDE_LOG) == Some(Format::Two));
-    assert!(rt; stated_format(first(&rt, &WIDE_LOG, 18)) == Some(Format::Two));
-    assert!(rt; stated_format(&LOG) == Some(Format::One));
-    assert!(rt; stated_format(first(&rt, &WIDE_LOG, 17)) == None);
+    let rows = [
+        (wide_log(), Some(Format::Two)),
+        (log(), Some(Format::One)),
+        (first(&rt, wide_log(), 17), None),
+    ];
+    for (image, format) in rows {
+        assert!(rt; contents_of(rt.alloc(), image, 0)?.format == format);
+        assert!(rt; stated_format(image) == format);
+    }
+    assert!(rt; stated_format(first(&rt, wide_log(), 18)) == Some(Format::Two));
     Ok(())
 }
 
 // Each number of streams above those of format 1 is one of format 2 alone. Bytes 11, 13 and 15 are the digit of the format,
 // the number of streams and the stream.
 #[test]
-fn counts_of_format_2(rt: HostRuntime) {
-    let alloc = rt.alloc();
+fn counts_of_format_2(rt: HostRuntime) -> Result<(), Fail> {
     for n in 17u8..33 {
         let last = n - 1;
-        let wide = found_changed_wide(&rt, alloc, &[(13, n), (15, last)], u16::from(last));
+        let changes = [(13, n), (15, last)];
+        let wide = found_changed(&rt, rt.alloc(), wide_log(), &changes, u16::from(last))?;
         assert_eq!(rt; wide, (u16::from(n), 81, 55, 0), "{n} streams");
-        let narrow = found_changed_wide(&rt, alloc, &[(11, 49), (13, n), (15, last)], 16);
+        let changes = [(11, 49), (13, n), (15, last)];
+        let narrow = found_changed(&rt, rt.alloc(), wide_log(), &changes, 16)?;
         assert_eq!(rt; narrow, (0, 0, 0, 2), "{n} streams in format 1");
     }
+    Ok(())
 }
 
 /// Where a byte of the log of format 2 is changed, to what, and the number of the cause.
-const WIDE_CHANGES: [(usize, u8, u8); 11] = [
+static WIDE_CHANGES: [(usize, u8, u8); 11] = [
     (0, 0, 1),
     (11, 51, 1),
     (12, 1, 2),
@@ -296,23 +324,25 @@ const WIDE_CHANGES: [(usize, u8, u8); 11] = [
 ];
 
 #[test]
-fn causes_in_format_2(rt: HostRuntime) {
-    let alloc = rt.alloc();
-    for (at, byte, cause) in WIDE_CHANGES {
-        let seen = found_changed_wide(&rt, alloc, &[(at, byte)], 0);
-        assert_eq!(rt; seen, (0, 0, 0, cause), "byte {at} set to {byte}");
+fn causes_in_format_2(rt: HostRuntime) -> Result<(), Fail> {
+    for row in &WIDE_CHANGES {
+        has_cause(&rt, rt.alloc(), wide_log(), row)?;
     }
-    // Of several causes the first one that is looked for is told.
+    Ok(())
+}
+
+// Of several causes the first one that is looked for is told.
+#[test]
+fn the_first_of_several_causes_in_format_2(rt: HostRuntime) -> Result<(), Fail> {
     let rows = [
-        ([(13usize, 33u8), (15, 32)], 32u16, 2u8),
+        ([(13, 33), (15, 32)], 32, 2),
         ([(13, 33), (0, 0)], 0, 1),
         ([(13, 32), (15, 32)], 32, 3),
         ([(13, 32), (15, 31)], 30, 3),
     ];
     for (changes, j, cause) in rows {
-        assert_eq!(rt;
-            found_changed_wide(&rt, alloc, &changes, j),
-            (0, 0, 0, cause)
-        );
+        let seen = found_changed(&rt, rt.alloc(), wide_log(), &changes, j)?;
+        assert_eq!(rt; seen, (0, 0, 0, cause), "stream {j}");
     }
+    Ok(())
 }

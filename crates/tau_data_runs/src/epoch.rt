@@ -1,4 +1,4 @@
-use crate::vectors::vector;
+use crate::support::vector;
 use std::alloc::Global;
 use std::process::Abort;
 use tau_base::Lv;

@@ -22,4 +22,6 @@ mod record;
 #[cfg(test)]
 mod rows;
 #[cfg(test)]
-mod vectors;
+mod support;
+#[cfg(test)]
+mod words;

@@ -1,5 +1,5 @@
 //! Memory that is used again.
-use crate::vectors::vector;
+use crate::support::vector;
 use std::process::Abort;
 use std::test::Fail;
 use tau_base::{Key, Lv, Value};

@@ -1,172 +1,123 @@
 //! The store and the reported history, against values worked out by hand.
-use crate::vectors::vector;
-use arrayvec::ArrayVec;
+use crate::support::{call_of, vector};
+use crate::words::Word::{self, Absent, Number, Text};
+use crate::words::{declared, key, reply_of, rows_of, transfer, value_of};
 use std::alloc::Global;
 use std::process::Abort;
-use std::test::Fail;
-use tau_base::{Call, Key, Listed, Lv, MAX_LSN, Name, Text64, Value};
+use std::test::*;
+use tau_base::{Call, Lv, MAX_LSN, Value};
 use tau_model::{Committed, CommittedList, SerialStore, Spot, are_within, reported};
-use tau_proc::{Compare, FIRST_DECLARED, GET, Operand, PUT, Proc, Procs, Reply, Step};
+use tau_proc::{FIRST_DECLARED, GET, PUT, Procs, Reply};
 
-fn call_of(proc: u16, args: &[i64]) -> Call {
-    let mut list = ArrayVec::new();
-    for number in args {
-        if !list.is_full() {
-            list.push(Value::Int(*number));
-        }
-    }
-    Call { proc, args: list }
+/// What happens to a store; rows are those of table 0.
+#[derive(Drop)]
+enum Happens<'a> {
+    /// A call of this procedure replies this, or this step refuses it.
+    Calls(u16, &'a [i64], Result<Word, u16>),
+    /// These rows are written.
+    Writes(&'a [(i64, Word)]),
+    /// A row has this value, as a value and as it is lent.
+    Holds(i64, Word),
+    /// All rows are these.
+    HasRows(&'a [(i64, Word)]),
 }
 
-/// Moves an amount from a row to another, where the first has enough.
-fn transfer(alloc: Global) -> Result<Proc, Fail> {
-    let (from, to, amount) = (
-        Operand::Argument(1),
-        Operand::Argument(2),
-        Operand::Argument(3),
-    );
-    let mut steps = Vec::new(alloc);
-    steps.push(Step::Get {
-        into: 0,
-        table: 0,
-        row: from.copied(),
-    })?;
-    steps.push(Step::Need {
-        left: Operand::Register(0),
-        how: Compare::AtLeast,
-        right: amount.copied(),
-    })?;
-    steps.push(Step::Sub {
-        into: 0,
-        left: Operand::Register(0),
-        right: amount.copied(),
-    })?;
-    steps.push(Step::Get {
-        into: 1,
-        table: 0,
-        row: to.copied(),
-    })?;
-    steps.push(Step::Add {
-        into: 1,
-        left: Operand::Register(1),
-        right: amount,
-    })?;
-    steps.push(Step::Put {
-        table: 0,
-        row: from,
-        value: Operand::Register(0),
-    })?;
-    steps.push(Step::Put {
-        table: 0,
-        row: to,
-        value: Operand::Register(1),
-    })?;
-    steps.push(Step::Reply(Operand::Register(0)))?;
-    Ok(Proc {
-        name: Name::of("move").ok_or("name")?,
-        args: 3,
-        steps: Listed::of(steps),
-    })
-}
-
-fn execute(
+fn executes(
     rt: &impl Abort,
     store: &mut SerialStore,
     procs: &Procs,
     call: &Call,
-) -> Result<Reply, Fail> {
-    assert!(rt; procs.takes(call));
-    Ok(store.execute(procs, call)?)
-}
-
-/// A call replies a number or no value, or this step refuses it.
-fn replies(
-    rt: &impl Abort,
-    store: &mut SerialStore,
-    procs: &Procs,
-    call: &Call,
-    wanted: Result<Option<i64>, u16>,
+    wanted: Result<Word, u16>,
 ) -> Result<(), Fail> {
-    let reply = match wanted {
-        Ok(Some(number)) => Reply::Ok(Value::Int(number)),
-        Ok(None) => Reply::Ok(Value::Absent),
-        Err(step) => Reply::Refused(step),
-    };
-    assert_eq!(rt; execute(rt, store, procs, call)?, reply);
+    assert!(rt; procs.takes(call));
+    let reply = store.execute(procs, call)?;
+    assert!(rt; reply == reply_of(rt, wanted));
     Ok(())
 }
 
-/// A row of table 0 holds this.
-fn holds(rt: &impl Abort, store: &SerialStore, row: i64, value: Value) {
-    assert_eq!(rt; store.value(Key { table: 0, row }), value);
+fn writes(
+    rt: &impl Abort,
+    alloc: Global,
+    store: &mut SerialStore,
+    rows: &[(i64, Word)],
+) -> Result<(), Fail> {
+    let rows = rows_of(rt, alloc, rows)?;
+    Ok(store.write(rows.as_slice())?)
 }
 
-/// A row of table 0 holds this, as it is lent.
-fn lends(rt: &impl Abort, store: &SerialStore, row: i64, value: Value) {
-    assert!(rt; store.value_ref(Key { table: 0, row }) == Some(&value));
+fn holds(rt: &impl Abort, store: &SerialStore, row: i64, word: Word) -> Result<(), Fail> {
+    let value = value_of(rt, word);
+    assert!(rt; store.value(key(row)) == value);
+    assert!(rt; store.value_ref(key(row)).unwrap_or(&Value::Absent) == &value);
+    Ok(())
 }
 
-/// All rows are these of table 0.
 fn has_rows(
     rt: &impl Abort,
     alloc: Global,
     store: &SerialStore,
-    rows: &[(Key, Value)],
+    rows: &[(i64, Word)],
 ) -> Result<(), Fail> {
+    let rows = rows_of(rt, alloc, rows)?;
     let tables = store.tables(alloc)?;
-    assert!(rt; tables.rows() == rows);
-    assert!(rt; tables.into_rows().as_slice() == rows);
+    assert!(rt; tables.rows() == rows.as_slice());
+    assert!(rt; tables.into_rows().as_slice() == rows.as_slice());
     Ok(())
 }
 
-fn with_transfer(rt: &impl Abort, alloc: Global) -> Result<Procs, Fail> {
-    let proc = transfer(alloc)?;
-    assert!(rt; proc.is_well_formed());
-    let mut procs = Procs::new(alloc);
-    procs.add(proc)?;
-    Ok(procs)
+fn goes_on(
+    rt: &impl Abort,
+    alloc: Global,
+    store: &mut SerialStore,
+    procs: &Procs,
+    happens: &Happens<'_>,
+) -> Result<(), Fail> {
+    match happens {
+        Happens::Calls(proc, args, reply) => {
+            executes(rt, store, procs, &call_of(*proc, args), *reply)
+        }
+        Happens::Writes(rows) => writes(rt, alloc, store, rows),
+        Happens::Holds(row, word) => holds(rt, store, *row, *word),
+        Happens::HasRows(rows) => has_rows(rt, alloc, store, rows),
+    }
+}
+
+/// All of this happens to an empty store whose procedure moves amounts.
+fn goes(rt: &impl Abort, alloc: Global, all: &[Happens<'_>]) -> Result<(), Fail> {
+    let procs = declared(rt, alloc, "move", 3, &transfer())?;
+    let mut store = SerialStore::new(alloc);
+    for happens in all {
+        goes_on(rt, alloc, &mut store, &procs, happens)?;
+    }
+    Ok(())
 }
 
 #[test]
 fn transfers_move_what_is_there(rt: HostRuntime) -> Result<(), Fail> {
-    let procs = with_transfer(&rt, rt.alloc())?;
-    let mut store = SerialStore::new(rt.alloc());
-    let calls = [
-        (PUT, [0, 1, 100].as_slice(), Ok(None)),
-        (PUT, [0, 2, 50].as_slice(), Ok(None)),
-        (FIRST_DECLARED, [1, 2, 30].as_slice(), Ok(Some(70))),
-        (FIRST_DECLARED, [1, 2, 80].as_slice(), Err(2)),
-        (GET, [0, 2].as_slice(), Ok(Some(80))),
+    let all = [
+        Happens::Calls(PUT, &[0, 1, 100], Ok(Absent)),
+        Happens::Calls(PUT, &[0, 2, 50], Ok(Absent)),
+        Happens::Calls(FIRST_DECLARED, &[1, 2, 30], Ok(Number(70))),
+        Happens::Calls(FIRST_DECLARED, &[1, 2, 80], Err(2)),
+        Happens::Calls(GET, &[0, 2], Ok(Number(80))),
+        Happens::Holds(1, Number(70)),
+        Happens::Holds(2, Number(80)),
+        Happens::Holds(3, Absent),
+        Happens::HasRows(&[(1, Number(70)), (2, Number(80))]),
     ];
-    for (proc, args, reply) in calls {
-        replies(&rt, &mut store, &procs, &call_of(proc, args), reply)?;
-    }
-    holds(&rt, &store, 1, Value::Int(70));
-    holds(&rt, &store, 2, Value::Int(80));
-    holds(&rt, &store, 3, Value::Absent);
-    let rows = [
-        (Key { table: 0, row: 1 }, Value::Int(70)),
-        (Key { table: 0, row: 2 }, Value::Int(80)),
-    ];
-    has_rows(&rt, rt.alloc(), &store, &rows)
-}
-
-/// Writes to rows 1 and 2.
-fn write(store: &mut SerialStore, first: Value, second: Value) -> Result<(), Fail> {
-    let (one, two) = (Key { table: 0, row: 1 }, Key { table: 0, row: 2 });
-    Ok(store.write(&[(one, first), (two, second)])?)
+    goes(&rt, rt.alloc(), &all)
 }
 
 #[test]
 fn rows_are_written_and_removed(rt: HostRuntime) -> Result<(), Fail> {
-    let mut store = SerialStore::new(rt.alloc());
-    write(&mut store, Value::Int(5), Value::Int(6))?;
-    write(&mut store, Value::Absent, Value::Int(7))?;
-    holds(&rt, &store, 1, Value::Absent);
-    holds(&rt, &store, 2, Value::Int(7));
-    lends(&rt, &store, 2, Value::Int(7));
-    let two = Key { table: 0, row: 2 };
-    has_rows(&rt, rt.alloc(), &store, &[(two, Value::Int(7))])
+    let all = [
+        Happens::Writes(&[(1, Number(5)), (2, Number(6))]),
+        Happens::Writes(&[(1, Absent), (2, Number(7))]),
+        Happens::Holds(1, Absent),
+        Happens::Holds(2, Number(7)),
+        Happens::HasRows(&[(2, Number(7))]),
+    ];
+    goes(&rt, rt.alloc(), &all)
 }
 
 /// The stream, start and end of a record above no anchor, where a call has one.
@@ -209,12 +160,6 @@ fn order_of(
     Ok(reported(alloc, ends, kept)?)
 }
 
-/// The value of this text as a reply.
-fn said(text: &str) -> Result<Reply, Fail> {
-    let text = Text64::of(text).ok_or("it is short")?;
-    Ok(Reply::Ok(Value::Text(text)))
-}
-
 /// Where the record of the second call of the next test stands.
 const SPOT: Spot = Spot {
     stream: 1,
@@ -223,59 +168,42 @@ const SPOT: Spot = Spot {
     anchor: 7,
 };
 
-/// Puts a call last, with the vector of these positions.
-fn push(
-    rt: &impl Abort,
-    list: &mut CommittedList,
-    number: u64,
-    reply: Reply,
-    dep: &[u64],
-    spot: Option<Spot>,
-) -> Result<(), Fail> {
-    list.push(number, &reply, &vector(rt, dep), spot)?;
+/// A call: its number, what it replied or the step that refused it, the vector that it depends on, and where its record
+/// stands, if it has one.
+type Row<'a> = (u64, Result<Word, u16>, &'a [u64], Option<Spot>);
+
+fn put_last(rt: &impl Abort, list: &mut CommittedList, rows: &[Row<'_>]) -> Result<(), Fail> {
+    for (number, reply, dep, spot) in rows {
+        list.push(*number, &reply_of(rt, *reply), &vector(rt, dep), *spot)?;
+    }
     Ok(())
 }
 
-/// Call 1, behind which two more of another list are put.
-fn of_two_lists(rt: &impl Abort, alloc: Global) -> Result<CommittedList, Fail> {
-    let mut list = CommittedList::new(alloc);
-    push(rt, &mut list, 1, said("one")?, &[53, 0], None)?;
-    let mut others = CommittedList::new(alloc);
-    push(rt, &mut others, 2, Reply::Refused(3), &[53, 9], Some(SPOT))?;
-    push(rt, &mut others, 3, said("three")?, &[1], None)?;
-    put_behind(rt, &mut list, others)?;
-    Ok(list)
-}
-
-fn put_behind(
+/// These calls, the ones after the first from another list.
+fn of_two_lists(
     rt: &impl Abort,
-    list: &mut CommittedList,
-    others: CommittedList,
-) -> Result<(), Fail> {
+    alloc: Global,
+    first: &[Row<'_>],
+    second: &[Row<'_>],
+) -> Result<CommittedList, Fail> {
+    let mut list = CommittedList::new(alloc);
+    put_last(rt, &mut list, first)?;
+    let mut others = CommittedList::new(alloc);
+    put_last(rt, &mut others, second)?;
     assert_eq!(rt; others.len(), 2);
     list.reserve(2)?;
     list.append(others);
     assert_eq!(rt; list.len(), 3);
-    Ok(())
+    Ok(list)
 }
 
-/// The call at this index replied this text, or this step refused it; and its record stands there.
-fn is_kept(
-    rt: &impl Abort,
-    list: &CommittedList,
-    i: usize,
-    wanted: Result<&str, u16>,
-    spot: Option<Spot>,
-) -> Result<(), Fail> {
-    let reply = match wanted {
-        Ok(text) => said(text)?,
-        Err(step) => Reply::Refused(step),
-    };
+/// The call at this index is this one.
+fn is_kept(rt: &impl Abort, list: &CommittedList, i: usize, row: &Row<'_>) {
     assert!(rt; i < list.len());
     let call = list.at(i);
-    assert!(rt; call.reply() == reply);
-    assert!(rt; call.spot() == spot);
-    Ok(())
+    assert!(rt; call.reply() == reply_of(rt, row.1));
+    assert!(rt; call.dep() == row.2);
+    assert!(rt; call.spot() == row.3);
 }
 
 /// A position of the vector of the call at this index, with its own record.
@@ -289,32 +217,18 @@ fn is_covered(rt: &impl Abort, list: &CommittedList, i: usize, parts: &[u64]) ->
     list.at(i).is_covered(&vector(rt, parts))
 }
 
-/// The call at this index depends on this.
-fn depends_on(rt: &impl Abort, list: &CommittedList, i: usize, parts: &[u64]) {
-    assert!(rt; i < list.len());
-    assert_eq!(rt; list.at(i).dep(), parts);
-}
-
-// Replies of each kind, of two lists.
+// Replies of each kind, of two lists. The vector of the second call with its own record is (53,61).
 #[test]
 fn committed_calls_are_kept_short(rt: HostRuntime) -> Result<(), Fail> {
-    let list = of_two_lists(&rt, rt.alloc())?;
-    let rows = [
-        (0, Ok("one"), None),
-        (1, Err(3), Some(SPOT)),
-        (2, Ok("three"), None),
+    let rows: [Row<'_>; 3] = [
+        (1, Ok(Text("one")), &[53, 0], None),
+        (2, Err(3), &[53, 9], Some(SPOT)),
+        (3, Ok(Text("three")), &[1], None),
     ];
-    for (i, reply, spot) in rows {
-        is_kept(&rt, &list, i, reply, spot)?;
+    let list = of_two_lists(&rt, rt.alloc(), &rows[..1], &rows[1..])?;
+    for (i, row) in rows.iter().enumerate() {
+        is_kept(&rt, &list, i, row);
     }
-    Ok(())
-}
-
-// The same calls: the vector of the second one with its own record is (53,61).
-#[test]
-fn kept_calls_have_their_vectors(rt: HostRuntime) -> Result<(), Fail> {
-    let list = of_two_lists(&rt, rt.alloc())?;
-    depends_on(&rt, &list, 1, &[53, 9]);
     let positions = (position(&rt, &list, 1, 1), position(&rt, &list, 0, 0));
     assert_eq!(rt; positions, (61, 53));
     assert!(rt; is_covered(&rt, &list, 1, &[53, 61]));
@@ -329,7 +243,7 @@ fn list_of(rt: &impl Abort, alloc: Global, calls: &[Plain<'_>]) -> Result<Commit
     let mut kept = CommittedList::new(alloc);
     for (number, dep, spot) in calls {
         let reply = Reply::Ok(Value::Absent);
-        push(rt, &mut kept, *number, reply, dep, spot_of(*spot))?;
+        kept.push(*number, &reply, &vector(rt, dep), spot_of(*spot))?;
     }
     Ok(kept)
 }

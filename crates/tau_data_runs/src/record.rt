@@ -1,16 +1,98 @@
-ghost use Rattle.std.specs.Prelude.{◌≤◌};
-
-use crate::vectors::vector;
-use arrayvec::ArrayVec;
+//! Records: their bytes, and what contents are read as, against values worked out by hand.
+use crate::support::{call_of, is_same, text_of, vector};
 use std::alloc::Global;
 use std::process::Abort;
 use std::test::Fail;
-use tau_base::{Call, Key, Lv, Text64, Value};
+use tau_base::{Key, Lv, Value};
 use tau_record::{
     Entry, Format, KeptLv, KeptWrites, LentWrites, Placed, RecordCause, RecordFault, RecordRefusal,
     compress, compress_wide, decode, decode_as, encode_anchor, encode_catalogue, encode_command,
     encode_command_wide, encode_epoch, encode_written, encode_written_wide, raise,
 };
+
+/// The catalogue record of `table a`.
+const CATALOGUE: &str = "04 0000000d 7461626c6520610a";
+
+/// The record of call 1, which puts 5 into row 1.
+const WRITTEN: &str =
+    "01 00000028 0000000000000001 00000000 0000 0001 0000 0000000000000001 01 0000000000000005";
+
+/// The same record in format 2.
+const WIDE_WRITTEN: &str =
+    "01 0000002a 0000000000000001 00000000 00000000 0001 0000 0000000000000001 01 0000000000000005";
+
+/// The same call as a command record in format 2.
+const WIDE_COMMAND: &str =
+    "02 00000033 0000000000000001 00000000 00000000 0000 03 01 0000000000000000 01 0000000000000001 01 0000000000000005";
+
+/// Epoch 1 of two streams, which then held 13 and 61 bytes.
+const EPOCH: &str = "05 00000019 00000001 000000000000000d 000000000000003d";
+
+/// The record of call 1 with the vector `two_high` above no anchor.
+const HIGH_WRITTEN: &str =
+    "01 0000003a 0000000000000001 00000000 80010000 000000000000000d 000000000000003d 0001 0000 0000000000000001 01 0000000000000005";
+
+/// The record of call 1 with the vector `ends_raised` above the anchor `ends`.
+const ANCHORED_WRITTEN: &str =
+    "01 00000032 0000000000000001 00000001 80000000 000000000000005a 0001 0000 0000000000000001 01 0000000000000005";
+
+/// The record of call 1 with the vector of that anchor.
+const SAME_WRITTEN: &str =
+    "01 0000002a 0000000000000001 00000001 00000000 0001 0000 0000000000000001 01 0000000000000005";
+
+static ENDS: [u64; 32] = [
+    13, 13, 13, 13, 13, 13, 13, 13, 13, 13, 13, 13, 13, 13, 13, 13, 61, 13, 13, 13, 13, 13, 13, 13,
+    13, 13, 13, 13, 13, 13, 13, 77,
+];
+
+/// The anchor with number 1 of a stream of 32.
+fn ends() -> &'static [u64] {
+    &ENDS
+}
+
+static ENDS_RAISED: [u64; 32] = [
+    13, 13, 13, 13, 13, 13, 13, 13, 13, 13, 13, 13, 13, 13, 13, 13, 61, 13, 13, 13, 13, 13, 13, 13,
+    13, 13, 13, 13, 13, 13, 13, 90,
+];
+
+/// The same with another position for the last stream.
+fn ends_raised() -> &'static [u64] {
+    &ENDS_RAISED
+}
+
+static TWO_HIGH: [u64; 32] = [
+    0, 0, 0, 0, 0, 0, 0, 0, 0, 0, 0, 0, 0, 0, 0, 0, 13, 0, 0, 0, 0, 0, 0, 0, 0, 0, 0, 0, 0, 0, 0,
+    61,
+];
+
+/// Of 32 streams, 16 and 31 have a position.
+fn two_high() -> &'static [u64] {
+    &TWO_HIGH
+}
+
+/// Bytes of a stream: spelled by hand, or of a record that is encoded.
+#[derive(Drop)]
+enum Bytes<'a> {
+    /// These hexadecimal digits, between which there may be spaces.
+    Digits(&'a str),
+    /// Digits, and then 8 bytes for each of these positions.
+    Positions(&'a str, &'a [u64]),
+    /// The catalogue with this text.
+    Catalogue(&'a [u8]),
+    /// The anchor with this vector.
+    Anchor(&'a [u64]),
+    /// The epoch with this number and vector.
+    Epoch(u32, &'a [u64]),
+    /// The record of a call that puts a number into row 1: the call, its vector, the number and the vector of the anchor,
+    /// and what is put.
+    Written(u64, &'a [u64], u32, &'a [u64], i64),
+    /// The same in format 2.
+    WideWritten(u64, &'a [u64], u32, &'a [u64], i64),
+    /// The record of call 1, of this procedure with these arguments, above no anchor.
+    Command(u16, &'a [i64]),
+    /// The same in format 2.
+    WideCommand(u16, &'a [i64]),
+}
 
 /// The bytes of hexadecimal digits, between which there may be spaces.
 fn bytes_of(alloc: Global, text: &str) -> Result<Vec<u8>, Fail> {
@@ -31,244 +113,6 @@ fn bytes_of(alloc: Global, text: &str) -> Result<Vec<u8>, Fail> {
     Ok(bytes)
 }
 
-/// The catalogue record of `table a`.
-const CATALOGUE: &str = "04 0000000d 7461626c6520610a";
-
-/// The record of call 1, which puts 5 into row 1.
-const WRITTEN: &str =
-    "01 00000028 0000000000000001 00000000 0000 0001 0000 0000000000000001 01 0000000000000005";
-
-/// The same record in format 2.
-const WIDE_WRITTEN: &str =
-    "01 0000002a 0000000000000001 00000000 00000000 0001 0000 0000000000000001 01 0000000000000005";
-
-/// The same call as a command record in format 2.
-const WIDE_COMMAND: &str =
-    "02 00000033 0000000000000001 00000000 00000000 0000 03 01 0000000000000000 01 0000000000000001 01 0000000000000005";
-
-/// Epoch 1 of two streams, which then held 13 and 61 bytes.
-const EPOCH: &str = "05 00000019 00000001 000000000000000d 000000000000003d";
-
-/// The catalogue record, and then other bytes.
-fn content_of(alloc: Global, rest: &str) -> Result<Vec<u8>, Fail> {
-    let mut content = bytes_of(alloc, CATALOGUE)?;
-    content.extend_from_slice(bytes_of(alloc, rest)?.as_slice())?;
-    Ok(content)
-}
-
-/// The bytes of a data record of one write.
-fn put(
-    rt: &impl Abort,
-    alloc: Global,
-    number: u64,
-    anchor_number: u32,
-    dep: &Lv,
-    anchor: &Lv,
-    value: Value,
-) -> Result<Vec<u8>, Fail>
-    requires { 1 ≤ number }
-{
-    assert!(rt; dep.width() == anchor.width() && dep.width() <= 16);
-    assert!(rt; dep.covers(anchor));
-    let writes = [(Key { table: 0, row: 1 }, value)];
-    Ok(encode_written(alloc, number, anchor_number, dep, anchor, &writes)?)
-}
-
-/// These bytes are those of hexadecimal digits.
-fn are_bytes(rt: &impl Abort, alloc: Global, bytes: &[u8], text: &str) -> Result<(), Fail> {
-    assert_eq!(rt; bytes, bytes_of(alloc, text)?.as_slice());
-    Ok(())
-}
-
-/// The record of a call that puts a number into row 1, above no anchor.
-fn put_is(
-    rt: &impl Abort,
-    alloc: Global,
-    call: u64,
-    dep: &[u64],
-    number: i64,
-    text: &str,
-) -> Result<(), Fail> {
-    assert!(rt; 1 <= call);
-    let zero = vector(rt, &[0, 0]);
-    let record = put(
-        rt,
-        alloc,
-        call,
-        0,
-        &vector(rt, dep),
-        &zero,
-        Value::Int(number),
-    )?;
-    are_bytes(rt, alloc, record.as_slice(), text)
-}
-
-#[test]
-fn records_have_the_stated_bytes(rt: HostRuntime) -> Result<(), Fail> {
-    let alloc = rt.alloc();
-    let catalogue = encode_catalogue(alloc, b"table a\n")?;
-    are_bytes(&rt, alloc, catalogue.as_slice(), CATALOGUE)?;
-    put_is(&rt, alloc, 1, &[0, 0], 5, WRITTEN)?;
-    put_is(
-        &rt,
-        alloc,
-        2,
-        &[53, 0],
-        7,
-        "01 00000030 0000000000000002 00000000 0001 0000000000000035 0001 0000 0000000000000001 01 0000000000000007",
-    )?;
-    let anchor = encode_anchor(alloc, &vector(&rt, &[13, 13, 53]))?;
-    are_bytes(
-        &rt,
-        alloc,
-        anchor.as_slice(),
-        "03 0000001d 000000000000000d 000000000000000d 0000000000000035",
-    )
-}
-
-/// The bytes of an epoch with this number and vector.
-fn epoch(rt: &impl Abort, alloc: Global, number: u32, lv: &[u64]) -> Result<Vec<u8>, Fail> {
-    assert!(rt; 1 <= number);
-    Ok(encode_epoch(alloc, number, &vector(rt, lv))?)
-}
-
-/// An epoch takes 9 bytes and 8 for each stream, and is the same in both formats.
-#[test]
-fn epochs_have_the_stated_bytes(rt: HostRuntime) -> Result<(), Fail> {
-    let alloc = rt.alloc();
-    let first = epoch(&rt, alloc, 1, &[13, 61])?;
-    are_bytes(&rt, alloc, first.as_slice(), EPOCH)?;
-    let last = epoch(&rt, alloc, u32::MAX, &[0, 0x3fff_ffff_ffff_ffff])?;
-    are_bytes(
-        &rt,
-        alloc,
-        last.as_slice(),
-        "05 00000019 ffffffff 0000000000000000 3fffffffffffffff",
-    )
-}
-
-/// The record of a call with these arguments, above no anchor.
-fn command(rt: &impl Abort, alloc: Global, proc: u16, numbers: &[i64]) -> Result<Vec<u8>, Fail> {
-    let zero = Lv::zero(2);
-    let mut args = ArrayVec::new();
-    for number in numbers {
-        if !args.is_full() {
-            args.push(Value::Int(*number));
-        }
-    }
-    assert!(rt; zero.covers(&zero));
-    Ok(encode_command(alloc, 1, 0, &zero, &zero, &Call { proc, args })?)
-}
-
-#[test]
-fn commands_have_the_stated_bytes(rt: HostRuntime) -> Result<(), Fail> {
-    let record = command(&rt, rt.alloc(), 0, &[0, 1, 5])?;
-    are_bytes(
-        &rt,
-        rt.alloc(),
-        record.as_slice(),
-        "02 00000031 0000000000000001 00000000 0000 0000 03 01 0000000000000000 01 0000000000000001 01 0000000000000005",
-    )
-}
-
-/// The bytes of the record, in format 2, of a call that puts a number into row 1, above the anchor of this number.
-fn wide_put(
-    rt: &impl Abort,
-    alloc: Global,
-    call: u64,
-    dep: &[u64],
-    named: (u32, &[u64]),
-    number: i64,
-) -> Result<Vec<u8>, Fail> {
-    assert!(rt; 1 <= call);
-    let anchor = vector(rt, named.1);
-    let dep = vector(rt, dep);
-    assert!(rt; dep.width() == anchor.width());
-    assert!(rt; dep.covers(&anchor));
-    let writes = [(Key { table: 0, row: 1 }, Value::Int(number))];
-    Ok(encode_written_wide(alloc, call, named.0, &dep, &anchor, &writes)?)
-}
-
-/// The bytes of the command record, in format 2, of call 1 with these arguments, above no anchor.
-fn wide_command(rt: &impl Abort, alloc: Global, numbers: &[i64]) -> Result<Vec<u8>, Fail> {
-    let zero = Lv::zero(2);
-    let mut args = ArrayVec::new();
-    for number in numbers {
-        if !args.is_full() {
-            args.push(Value::Int(*number));
-        }
-    }
-    assert!(rt; zero.covers(&zero));
-    Ok(encode_command_wide(alloc, 1, 0, &zero, &zero, &Call { proc: 0, args })?)
-}
-
-#[test]
-fn wide_records_have_the_stated_bytes(rt: HostRuntime) -> Result<(), Fail> {
-    let alloc = rt.alloc();
-    let first = wide_put(&rt, alloc, 1, &[0, 0], (0, &[0, 0]), 5)?;
-    are_bytes(&rt, alloc, first.as_slice(), WIDE_WRITTEN)?;
-    let second = wide_put(&rt, alloc, 2, &[55, 0], (0, &[0, 0]), 7)?;
-    are_bytes(
-        &rt,
-        alloc,
-        second.as_slice(),
-        "01 00000032 0000000000000002 00000000 00000001 0000000000000037 0001 0000 0000000000000001 01 0000000000000007",
-    )?;
-    let command = wide_command(&rt, alloc, &[0, 1, 5])?;
-    are_bytes(&rt, alloc, command.as_slice(), WIDE_COMMAND)
-}
-
-/// The anchor with number 1 of a stream of 32.
-const ENDS: [u64; 32] = [
-    13, 13, 13, 13, 13, 13, 13, 13, 13, 13, 13, 13, 13, 13, 13, 13, 61, 13, 13, 13, 13, 13, 13, 13,
-    13, 13, 13, 13, 13, 13, 13, 77,
-];
-
-/// The same with another position for the last stream.
-const ENDS_RAISED: [u64; 32] = [
-    13, 13, 13, 13, 13, 13, 13, 13, 13, 13, 13, 13, 13, 13, 13, 13, 61, 13, 13, 13, 13, 13, 13, 13,
-    13, 13, 13, 13, 13, 13, 13, 90,
-];
-
-/// Of 32 streams, 16 and 31 have a position.
-const TWO_HIGH: [u64; 32] = [
-    0, 0, 0, 0, 0, 0, 0, 0, 0, 0, 0, 0, 0, 0, 0, 0, 13, 0, 0, 0, 0, 0, 0, 0, 0, 0, 0, 0, 0, 0, 0,
-    61,
-];
-
-/// The record of call 1 with the vector `TWO_HIGH` above no anchor.
-const HIGH_WRITTEN: &str =
-    "01 0000003a 0000000000000001 00000000 80010000 000000000000000d 000000000000003d 0001 0000 0000000000000001 01 0000000000000005";
-
-/// The record of call 1 with the vector `ENDS_RAISED` above the anchor `ENDS`.
-const ANCHORED_WRITTEN: &str =
-    "01 00000032 0000000000000001 00000001 80000000 000000000000005a 0001 0000 0000000000000001 01 0000000000000005";
-
-/// The record of call 1 with the vector of that anchor.
-const SAME_WRITTEN: &str =
-    "01 0000002a 0000000000000001 00000001 00000000 0001 0000 0000000000000001 01 0000000000000005";
-
-/// The record of call 1 with this vector, above the anchor of this number, has these bytes.
-fn wide_put_is(
-    rt: &impl Abort,
-    alloc: Global,
-    dep: &[u64],
-    named: (u32, &[u64]),
-    text: &str,
-) -> Result<(), Fail> {
-    let record = wide_put(rt, alloc, 1, dep, named, 5)?;
-    are_bytes(rt, alloc, record.as_slice(), text)
-}
-
-/// Masks have bits above 16.
-#[test]
-fn records_of_32_streams_have_the_stated_bytes(rt: HostRuntime) -> Result<(), Fail> {
-    let alloc = rt.alloc();
-    wide_put_is(&rt, alloc, &TWO_HIGH, (0, &[0; 32]), HIGH_WRITTEN)?;
-    wide_put_is(&rt, alloc, &ENDS_RAISED, (1, &ENDS), ANCHORED_WRITTEN)?;
-    wide_put_is(&rt, alloc, &ENDS, (1, &ENDS), SAME_WRITTEN)
-}
-
 /// The bytes of these digits, and then these components.
 fn with_components(alloc: Global, head: &str, lv: &[u64]) -> Result<Vec<u8>, Fail> {
     let mut bytes = bytes_of(alloc, head)?;
@@ -278,95 +122,339 @@ fn with_components(alloc: Global, head: &str, lv: &[u64]) -> Result<Vec<u8>, Fai
     Ok(bytes)
 }
 
-/// An anchor and an epoch of 32 streams have a component for each.
-#[test]
-fn anchors_and_epochs_of_32_streams_have_the_stated_bytes(rt: HostRuntime) -> Result<(), Fail> {
-    let alloc = rt.alloc();
-    let anchor = encode_anchor(alloc, &vector(&rt, &ENDS))?;
-    let wanted = with_components(alloc, "03 00000105", &ENDS)?;
-    assert_eq!(rt; anchor.as_slice(), wanted.as_slice());
-    let first = epoch(&rt, alloc, 1, &ENDS)?;
-    let wanted = with_components(alloc, "05 00000109 00000001", &ENDS)?;
-    assert_eq!(rt; first.as_slice(), wanted.as_slice());
-    Ok(())
+fn catalogue(rt: &impl Abort, alloc: Global, text: &[u8]) -> Result<Vec<u8>, Fail> {
+    assert!(rt; text.len() <= 32_768);
+    Ok(encode_catalogue(alloc, text)?)
 }
 
-/// The mask of a vector above an anchor.
-fn mask(rt: &impl Abort, dep: &Lv, anchor: &Lv) -> u16 {
+fn anchor(rt: &impl Abort, alloc: Global, lv: &[u64]) -> Result<Vec<u8>, Fail> {
+    Ok(encode_anchor(alloc, &vector(rt, lv))?)
+}
+
+fn epoch(rt: &impl Abort, alloc: Global, number: u32, lv: &[u64]) -> Result<Vec<u8>, Fail> {
+    assert!(rt; 1 <= number);
+    Ok(encode_epoch(alloc, number, &vector(rt, lv))?)
+}
+
+/// The bytes of a data record of one write.
+fn written(
+    rt: &impl Abort,
+    alloc: Global,
+    call: u64,
+    dep: &[u64],
+    named: u32,
+    anchor: &[u64],
+    value: Value,
+) -> Result<Vec<u8>, Fail> {
+    let dep = vector(rt, dep);
+    let anchor = vector(rt, anchor);
+    assert!(rt; 1 <= call);
     assert!(rt; dep.width() == anchor.width() && dep.width() <= 16);
-    assert!(rt; dep.covers(anchor));
-    compress(dep, anchor)
+    assert!(rt; dep.covers(&anchor));
+    let writes = [(Key { table: 0, row: 1 }, value)];
+    Ok(encode_written(alloc, call, named, &dep, &anchor, &writes)?)
 }
 
-/// The mask of a vector above an anchor in format 2.
-fn wide_mask(rt: &impl Abort, dep: &Lv, anchor: &Lv) -> u32 {
+/// The same in format 2.
+fn wide_written(
+    rt: &impl Abort,
+    alloc: Global,
+    call: u64,
+    dep: &[u64],
+    named: u32,
+    anchor: &[u64],
+    number: i64,
+) -> Result<Vec<u8>, Fail> {
+    let dep = vector(rt, dep);
+    let anchor = vector(rt, anchor);
+    assert!(rt; 1 <= call);
     assert!(rt; dep.width() == anchor.width());
-    assert!(rt; dep.covers(anchor));
-    compress_wide(dep, anchor)
+    assert!(rt; dep.covers(&anchor));
+    let writes = [(Key { table: 0, row: 1 }, Value::Int(number))];
+    Ok(encode_written_wide(alloc, call, named, &dep, &anchor, &writes)?)
 }
 
-/// Bit `j` is stream `j` in both formats.
-#[test]
-fn masks_of_both_formats(rt: HostRuntime) -> Result<(), Fail> {
-    let zero = Lv::zero(16);
-    let low = zero.with(0, 53);
-    let both = low.with(15, 61);
-    for (dep, anchor, bits) in [
-        (&low, &zero, 1),
-        (&both, &zero, 0x8001),
-        (&both, &low, 0x8000),
-    ] {
-        assert_eq!(rt; mask(&rt, dep, anchor), bits);
-        assert_eq!(rt; wide_mask(&rt, dep, anchor), u32::from(bits));
+fn command(rt: &impl Abort, alloc: Global, proc: u16, args: &[i64]) -> Result<Vec<u8>, Fail> {
+    let zero = Lv::zero(2);
+    assert!(rt; zero.covers(&zero));
+    Ok(encode_command(alloc, 1, 0, &zero, &zero, &call_of(proc, args))?)
+}
+
+fn wide_command(rt: &impl Abort, alloc: Global, proc: u16, args: &[i64]) -> Result<Vec<u8>, Fail> {
+    let zero = Lv::zero(2);
+    assert!(rt; zero.covers(&zero));
+    Ok(encode_command_wide(alloc, 1, 0, &zero, &zero, &call_of(proc, args))?)
+}
+
+fn bytes_in(rt: &impl Abort, alloc: Global, bytes: &Bytes<'_>) -> Result<Vec<u8>, Fail> {
+    match bytes {
+        Bytes::Digits(text) => bytes_of(alloc, text),
+        Bytes::Positions(head, lv) => with_components(alloc, head, lv),
+        Bytes::Catalogue(text) => catalogue(rt, alloc, text),
+        Bytes::Anchor(lv) => anchor(rt, alloc, lv),
+        Bytes::Epoch(number, lv) => epoch(rt, alloc, *number, lv),
+        Bytes::Written(call, dep, named, anchor, number) => {
+            written(rt, alloc, *call, dep, *named, anchor, Value::Int(*number))
+        }
+        Bytes::WideWritten(call, dep, named, anchor, number) => {
+            wide_written(rt, alloc, *call, dep, *named, anchor, *number)
+        }
+        Bytes::Command(proc, args) => command(rt, alloc, *proc, args),
+        Bytes::WideCommand(proc, args) => wide_command(rt, alloc, *proc, args),
+    }
+}
+
+/// All of these bytes, one after another.
+fn joined(rt: &impl Abort, alloc: Global, parts: &[Bytes<'_>]) -> Result<Vec<u8>, Fail> {
+    let mut content = Vec::new(alloc);
+    for part in parts {
+        let bytes = bytes_in(rt, alloc, part)?;
+        content.extend_from_slice(bytes.as_slice())?;
+    }
+    Ok(content)
+}
+
+/// Each record has the bytes that stand beside it.
+fn are_spelled(
+    rt: &impl Abort,
+    alloc: Global,
+    rows: &[(Bytes<'_>, Bytes<'_>)],
+) -> Result<(), Fail> {
+    for (record, spelled) in rows {
+        let found = bytes_in(rt, alloc, record)?;
+        let wanted = bytes_in(rt, alloc, spelled)?;
+        assert_eq!(rt; found.as_slice(), wanted.as_slice());
     }
     Ok(())
 }
 
-/// The mask, in format 2, of the vector with these positions above the anchor with those.
-fn wide_mask_is(rt: &impl Abort, dep: &[u64], anchor: &[u64], bits: u32) {
-    assert_eq!(rt; wide_mask(rt, &vector(rt, dep), &vector(rt, anchor)), bits);
+#[test]
+fn records_have_the_stated_bytes(rt: HostRuntime) -> Result<(), Fail> {
+    let rows = [
+        (Bytes::Catalogue(b"table a\n"), Bytes::Digits(CATALOGUE)),
+        (
+            Bytes::Written(1, &[0, 0], 0, &[0, 0], 5),
+            Bytes::Digits(WRITTEN),
+        ),
+        (
+            Bytes::Written(2, &[53, 0], 0, &[0, 0], 7),
+            Bytes::Digits(
+                "01 00000030 0000000000000002 00000000 0001 0000000000000035 0001 0000 0000000000000001 01 0000000000000007",
+            ),
+        ),
+        (
+            Bytes::Anchor(&[13, 13, 53]),
+            Bytes::Digits("03 0000001d 000000000000000d 000000000000000d 0000000000000035"),
+        ),
+        (
+            Bytes::Command(0, &[0, 1, 5]),
+            Bytes::Digits(
+                "02 00000031 0000000000000001 00000000 0000 0000 03 01 0000000000000000 01 0000000000000001 01 0000000000000005",
+            ),
+        ),
+    ];
+    are_spelled(&rt, rt.alloc(), &rows)
+}
+
+/// An epoch takes 9 bytes and 8 for each stream, and is the same in both formats.
+#[test]
+fn epochs_have_the_stated_bytes(rt: HostRuntime) -> Result<(), Fail> {
+    let rows = [
+        (Bytes::Epoch(1, &[13, 61]), Bytes::Digits(EPOCH)),
+        (
+            Bytes::Epoch(u32::MAX, &[0, 0x3fff_ffff_ffff_ffff]),
+            Bytes::Digits("05 00000019 ffffffff 0000000000000000 3fffffffffffffff"),
+        ),
+    ];
+    are_spelled(&rt, rt.alloc(), &rows)
+}
+
+#[test]
+fn wide_records_have_the_stated_bytes(rt: HostRuntime) -> Result<(), Fail> {
+    let rows = [
+        (
+            Bytes::WideWritten(1, &[0, 0], 0, &[0, 0], 5),
+            Bytes::Digits(WIDE_WRITTEN),
+        ),
+        (
+            Bytes::WideWritten(2, &[55, 0], 0, &[0, 0], 7),
+            Bytes::Digits(
+                "01 00000032 0000000000000002 00000000 00000001 0000000000000037 0001 0000 0000000000000001 01 0000000000000007",
+            ),
+        ),
+        (
+            Bytes::WideCommand(0, &[0, 1, 5]),
+            Bytes::Digits(WIDE_COMMAND),
+        ),
+    ];
+    are_spelled(&rt, rt.alloc(), &rows)
+}
+
+/// Masks have bits above 16. An anchor and an epoch have a component for each stream.
+#[test]
+fn records_of_32_streams_have_the_stated_bytes(rt: HostRuntime) -> Result<(), Fail> {
+    let rows = [
+        (
+            Bytes::WideWritten(1, two_high(), 0, &[0; 32], 5),
+            Bytes::Digits(HIGH_WRITTEN),
+        ),
+        (
+            Bytes::WideWritten(1, ends_raised(), 1, ends(), 5),
+            Bytes::Digits(ANCHORED_WRITTEN),
+        ),
+        (
+            Bytes::WideWritten(1, ends(), 1, ends(), 5),
+            Bytes::Digits(SAME_WRITTEN),
+        ),
+        (
+            Bytes::Anchor(ends()),
+            Bytes::Positions("03 00000105", ends()),
+        ),
+        (
+            Bytes::Epoch(1, ends()),
+            Bytes::Positions("05 00000109 00000001", ends()),
+        ),
+    ];
+    are_spelled(&rt, rt.alloc(), &rows)
+}
+
+/// The mask of a vector above an anchor.
+fn mask(rt: &impl Abort, dep: &[u64], anchor: &[u64]) -> u16 {
+    let dep = vector(rt, dep);
+    let anchor = vector(rt, anchor);
+    assert!(rt; dep.width() == anchor.width() && dep.width() <= 16);
+    assert!(rt; dep.covers(&anchor));
+    compress(&dep, &anchor)
+}
+
+/// The mask of a vector above an anchor in format 2.
+fn wide_mask(rt: &impl Abort, dep: &[u64], anchor: &[u64]) -> u32 {
+    let dep = vector(rt, dep);
+    let anchor = vector(rt, anchor);
+    assert!(rt; dep.width() == anchor.width());
+    assert!(rt; dep.covers(&anchor));
+    compress_wide(&dep, &anchor)
+}
+
+static FIRST_OF_16: [u64; 16] = [53, 0, 0, 0, 0, 0, 0, 0, 0, 0, 0, 0, 0, 0, 0, 0];
+
+/// Of 16 streams, 0 has a position.
+fn first_of_16() -> &'static [u64] {
+    &FIRST_OF_16
+}
+
+static ENDS_OF_16: [u64; 16] = [53, 0, 0, 0, 0, 0, 0, 0, 0, 0, 0, 0, 0, 0, 0, 61];
+
+/// The same, and 15 too.
+fn ends_of_16() -> &'static [u64] {
+    &ENDS_OF_16
+}
+
+/// Bit `j` is stream `j` in both formats. A call with the vector of its stream's anchor has an empty mask.
+#[test]
+fn masks_of_both_formats(rt: HostRuntime) {
+    let rows = [
+        (first_of_16(), [0; 16].as_slice(), 1),
+        (ends_of_16(), [0; 16].as_slice(), 0x8001),
+        (ends_of_16(), first_of_16(), 0x8000),
+        ([13, 13, 53].as_slice(), [13, 13, 53].as_slice(), 0),
+    ];
+    for (dep, anchor, bits) in rows {
+        assert_eq!(rt; mask(&rt, dep, anchor), bits);
+        assert_eq!(rt; wide_mask(&rt, dep, anchor), u32::from(bits));
+    }
 }
 
 #[test]
 fn masks_of_32_streams(rt: HostRuntime) {
-    wide_mask_is(&rt, &[0; 32], &[0; 32], 0);
-    wide_mask_is(&rt, &[1; 32], &[0; 32], 0xffff_ffff);
-    wide_mask_is(&rt, &[1; 17], &[0; 17], 0x0001_ffff);
-    wide_mask_is(&rt, &TWO_HIGH, &[0; 32], 0x8001_0000);
-    wide_mask_is(&rt, &ENDS_RAISED, &ENDS, 0x8000_0000);
-    wide_mask_is(&rt, &ENDS_RAISED, &[13; 32], 0x8001_0000);
+    let rows = [
+        ([0; 32].as_slice(), [0; 32].as_slice(), 0),
+        (&[1; 32], &[0; 32], 0xffff_ffff),
+        (&[1; 17], &[0; 17], 0x0001_ffff),
+        (two_high(), &[0; 32], 0x8001_0000),
+        (ends_raised(), ends(), 0x8000_0000),
+        (ends_raised(), &[13; 32], 0x8001_0000),
+    ];
+    for (dep, anchor, bits) in rows {
+        assert_eq!(rt; wide_mask(&rt, dep, anchor), bits);
+    }
+}
+
+/// Whether a vector that is raised to an anchor is this one.
+fn raises(rt: &impl Abort, dep: &[u64], anchor: &[u64], raised: &[u64]) -> bool {
+    raise(&vector(rt, dep), &vector(rt, anchor)) == vector(rt, raised)
 }
 
 /// A vector that is raised to an anchor covers it, also one of few streams.
 #[test]
-fn vectors_are_raised_to_anchors_of_32_streams(rt: HostRuntime) {
-    let ends = vector(&rt, &ENDS);
-    let raised = vector(&rt, &ENDS_RAISED);
-    assert!(rt; raise(&vector(&rt, &TWO_HIGH), &ends) == ends);
-    assert!(rt; raise(&vector(&rt, &[0; 32]), &ends) == ends);
-    assert!(rt; raise(&ends, &raised) == raised);
-    assert!(rt; raise(&raised, &ends) == raised);
-    assert!(rt; raise(&vector(&rt, &[13; 17]), &ends) == ends);
-    assert!(rt; raise(&raised, &vector(&rt, &[13; 17])) == raised);
+fn vectors_are_raised_to_anchors(rt: HostRuntime) {
+    let rows = [
+        (
+            [0, 0, 53].as_slice(),
+            [13, 13, 53].as_slice(),
+            [13, 13, 53].as_slice(),
+        ),
+        (two_high(), ends(), ends()),
+        (&[0; 32], ends(), ends()),
+        (ends(), ends_raised(), ends_raised()),
+        (ends_raised(), ends(), ends_raised()),
+        (&[13; 17], ends(), ends()),
+        (ends_raised(), &[13; 17], ends_raised()),
+    ];
+    for (dep, anchor, raised) in rows {
+        assert!(rt; raises(&rt, dep, anchor, raised));
+    }
 }
 
-/// The catalogue record, an anchor, and the record of call 1 with the same vector.
-fn anchored(rt: &impl Abort, alloc: Global, lv: &Lv) -> Result<Vec<u8>, Fail> {
-    let mut content = content_of(alloc, "")?;
-    content.extend_from_slice(encode_anchor(alloc, lv)?.as_slice())?;
-    let record = put(rt, alloc, 1, 1, lv, lv, Value::Int(5))?;
-    content.extend_from_slice(record.as_slice())?;
-    Ok(content)
+/// By which function a content is read.
+#[derive(Clone, Copy)]
+enum By {
+    Decode,
+    /// `decode_as`, in each format.
+    One,
+    Two,
 }
 
-/// Where the record at this index begins, and where the next one.
-fn place_of(rt: &impl Abort, placed: &[Placed], i: usize) -> (u64, u64) {
-    assert!(rt; i < placed.len());
-    (placed[i].start, placed[i].past)
+fn decoded(
+    rt: &impl Abort,
+    alloc: Global,
+    by: By,
+    n: u16,
+    content: &[u8],
+) -> Result<Vec<Placed>, RecordRefusal> {
+    assert!(rt; 1 <= n && n <= 32);
+    if let By::Two = by {
+        return decode_as(alloc, Format::Two, n, content);
+    }
+    assert!(rt; n <= 16);
+    match by {
+        By::Decode => decode(alloc, n, content),
+        _ => decode_as(alloc, Format::One, n, content),
+    }
 }
 
-/// The entry is the one write of call 1 with this vector, above the anchor with this number.
-fn is_first_write(rt: &impl Abort, entry: &Entry, named: u32, positions: &[u64]) {
+/// What a record is.
+#[derive(Drop)]
+enum Record<'a> {
+    /// The one write of call 1 with this vector, above the anchor with this number.
+    Write(u32, &'a [u64]),
+    /// Call 1, of procedure 0 with these arguments, above no anchor and with the vector (0,0).
+    Call(&'a [i64]),
+    /// The epoch with this number and vector.
+    Epoch(u32, &'a [u64]),
+    /// Another one.
+    Other,
+}
+
+/// How many writes there are.
+fn count_of(writes: &KeptWrites) -> usize {
+    match writes.lent() {
+        LentWrites::Numbers(numbers) => numbers.len(),
+        LentWrites::Whole(rows) => rows.len(),
+    }
+}
+
+fn is_write(entry: &Entry, named: u32, positions: &[u64]) -> bool {
     match entry {
         Entry::Written {
             number,
@@ -374,34 +462,13 @@ fn is_first_write(rt: &impl Abort, entry: &Entry, named: u32, positions: &[u64])
             dep,
             writes,
         } => {
-            assert_eq!(rt; *number, 1);
-            assert_eq!(rt; *anchor, named);
-            assert_eq!(rt; dep.as_slice(), positions);
-            assert_eq!(rt; count_of(writes), 1);
+            *number == 1 && *anchor == named && dep.as_slice() == positions && count_of(writes) == 1
         }
-        _ => assert!(rt; false),
+        _ => false,
     }
 }
 
-/// Call 1 is raised to the anchor of its stream, names it, and has an empty mask.
-#[test]
-fn record_above_an_anchor(rt: HostRuntime) -> Result<(), Fail> {
-    let lv = vector(&rt, &[13, 13, 53]);
-    let dep = raise(&vector(&rt, &[0, 0, 53]), &lv);
-    assert!(rt; dep == lv);
-    assert_eq!(rt; mask(&rt, &dep, &lv), 0);
-    let content = anchored(&rt, rt.alloc(), &lv)?;
-    assert_eq!(rt; content.len(), 82);
-    let placed = decode(rt.alloc(), 3, content.as_slice())?;
-    assert_eq!(rt; placed.len(), 3);
-    assert_eq!(rt; place_of(&rt, placed.as_slice(), 1), (13, 42));
-    assert_eq!(rt; place_of(&rt, placed.as_slice(), 2), (42, 82));
-    is_first_write(&rt, &placed[2].entry, 1, &[13, 13, 53]);
-    Ok(())
-}
-
-/// The entry is call 1, above no anchor, with these arguments.
-fn is_first_call(rt: &impl Abort, entry: &Entry, args: &[Value]) {
+fn is_call(entry: &Entry, args: &[i64]) -> bool {
     match entry {
         Entry::Command {
             number,
@@ -409,127 +476,144 @@ fn is_first_call(rt: &impl Abort, entry: &Entry, args: &[Value]) {
             dep,
             call,
         } => {
-            assert_eq!(rt; *number, 1);
-            assert_eq!(rt; *anchor, 0);
-            assert_eq!(rt; dep.as_slice(), [0, 0].as_slice());
-            let call = call.call();
-            assert_eq!(rt; call.proc, 0);
-            assert!(rt; call.args.as_slice() == args);
+            *number == 1
+                && *anchor == 0
+                && dep.as_slice() == [0, 0].as_slice()
+                && is_same(&call.call(), &call_of(0, args))
         }
-        _ => assert!(rt; false),
+        _ => false,
     }
+}
+
+fn is_epoch(entry: &Entry, stated: u32, positions: &[u64]) -> bool {
+    match entry {
+        Entry::Epoch { number, lv } => *number == stated && lv.as_slice() == positions,
+        _ => false,
+    }
+}
+
+fn is_record(entry: &Entry, record: &Record<'_>) -> bool {
+    match record {
+        Record::Write(named, positions) => is_write(entry, *named, positions),
+        Record::Call(args) => is_call(entry, args),
+        Record::Epoch(number, positions) => is_epoch(entry, *number, positions),
+        Record::Other => true,
+    }
+}
+
+/// The content of these bytes, which is read so with so many streams, has this size and so many records, and among them
+/// these: the index, where it begins and where the next one does, and what it is.
+fn reads(
+    rt: &impl Abort,
+    alloc: Global,
+    how: (By, u16),
+    parts: &[Bytes<'_>],
+    size: (usize, usize),
+    records: &[(usize, (u64, u64), Record<'_>)],
+) -> Result<(), Fail> {
+    let content = joined(rt, alloc, parts)?;
+    let placed = decoded(rt, alloc, how.0, how.1, content.as_slice())?;
+    assert_eq!(rt; (content.len(), placed.len()), size);
+    for (i, place, record) in records {
+        assert!(rt; *i < placed.len());
+        let found = &placed[*i];
+        assert_eq!(rt; (found.start, found.past), *place);
+        assert!(rt; is_record(&found.entry, record));
+    }
+    Ok(())
+}
+
+/// Call 1 is raised to the anchor of its stream, names it, and has an empty mask.
+#[test]
+fn record_above_an_anchor(rt: HostRuntime) -> Result<(), Fail> {
+    let content = [
+        Bytes::Digits(CATALOGUE),
+        Bytes::Anchor(&[13, 13, 53]),
+        Bytes::Written(1, &[13, 13, 53], 1, &[13, 13, 53], 5),
+    ];
+    let records = [
+        (1, (13, 42), Record::Other),
+        (2, (42, 82), Record::Write(1, &[13, 13, 53])),
+    ];
+    reads(
+        &rt,
+        rt.alloc(),
+        (By::Decode, 3),
+        &content,
+        (82, 3),
+        &records,
+    )
 }
 
 /// Records of format 2 are read again, each in its place.
 #[test]
 fn wide_contents_are_read(rt: HostRuntime) -> Result<(), Fail> {
     let alloc = rt.alloc();
-    let content = content_of(alloc, WIDE_WRITTEN)?;
-    let placed = decode_as(alloc, Format::Two, 2, content.as_slice())?;
-    assert_eq!(rt; placed.len(), 2);
-    assert_eq!(rt; place_of(&rt, placed.as_slice(), 1), (13, 55));
-    is_first_write(&rt, &placed[1].entry, 0, &[0, 0]);
-    let content = content_of(alloc, WIDE_COMMAND)?;
-    let placed = decode_as(alloc, Format::Two, 2, content.as_slice())?;
-    assert_eq!(rt; placed.len(), 2);
-    assert_eq!(rt; place_of(&rt, placed.as_slice(), 1), (13, 64));
-    let args = [Value::Int(0), Value::Int(1), Value::Int(5)];
-    is_first_call(&rt, &placed[1].entry, &args);
-    Ok(())
-}
-
-/// The catalogue record, and after it an anchor, and a record of one write.
-fn wide_anchored(alloc: Global, lv: &[u64], record: &str) -> Result<Vec<u8>, Fail> {
-    let mut content = content_of(alloc, "")?;
-    content.extend_from_slice(with_components(alloc, "03 00000105", lv)?.as_slice())?;
-    content.extend_from_slice(bytes_of(alloc, record)?.as_slice())?;
-    Ok(content)
-}
-
-/// The last record of this content of 32 streams is call 1 with this vector, above the anchor with this number.
-fn reads_last(
-    rt: &impl Abort,
-    alloc: Global,
-    content: &[u8],
-    named: u32,
-    positions: &[u64],
-) -> Result<(), Fail> {
-    let placed = decode_as(alloc, Format::Two, 32, content)?;
-    let count = placed.len();
-    assert!(rt; 1 <= count);
-    assert_eq!(rt;
-        place_of(rt, placed.as_slice(), count - 1).1,
-        content.len() as u64
-    );
-    is_first_write(rt, &placed[count - 1].entry, named, positions);
-    Ok(())
+    let content = [Bytes::Digits(CATALOGUE), Bytes::Digits(WIDE_WRITTEN)];
+    let records = [(1, (13, 55), Record::Write(0, &[0, 0]))];
+    reads(&rt, alloc, (By::Two, 2), &content, (55, 2), &records)?;
+    let content = [Bytes::Digits(CATALOGUE), Bytes::Digits(WIDE_COMMAND)];
+    let records = [(1, (13, 64), Record::Call(&[0, 1, 5]))];
+    reads(&rt, alloc, (By::Two, 2), &content, (64, 2), &records)
 }
 
 /// Records whose masks have bits above 16 are read with their vectors.
 #[test]
 fn records_of_32_streams_are_read(rt: HostRuntime) -> Result<(), Fail> {
     let alloc = rt.alloc();
-    let content = content_of(alloc, HIGH_WRITTEN)?;
-    reads_last(&rt, alloc, content.as_slice(), 0, &TWO_HIGH)?;
-    let content = wide_anchored(alloc, &ENDS, ANCHORED_WRITTEN)?;
-    assert_eq!(rt; content.len(), 324);
-    reads_last(&rt, alloc, content.as_slice(), 1, &ENDS_RAISED)?;
-    let content = wide_anchored(alloc, &ENDS, SAME_WRITTEN)?;
-    assert_eq!(rt; content.len(), 316);
-    reads_last(&rt, alloc, content.as_slice(), 1, &ENDS)
-}
-
-/// The entry is the epoch with this number and vector.
-fn is_epoch(rt: &impl Abort, entry: &Entry, stated: u32, positions: &[u64]) {
-    match entry {
-        Entry::Epoch { number, lv } => {
-            assert_eq!(rt; *number, stated);
-            assert_eq!(rt; lv.as_slice(), positions);
-        }
-        _ => assert!(rt; false),
-    }
-}
-
-/// The catalogue record, epochs 1 and 3, and between them an anchor and the record of call 1 above it.
-fn with_epochs(rt: &impl Abort, alloc: Global) -> Result<Vec<u8>, Fail> {
-    let lv = vector(rt, &[13, 13]);
-    let mut content = content_of(alloc, "")?;
-    content.extend_from_slice(epoch(rt, alloc, 1, &[13, 61])?.as_slice())?;
-    content.extend_from_slice(encode_anchor(alloc, &lv)?.as_slice())?;
-    let record = put(rt, alloc, 1, 1, &lv, &lv, Value::Int(5))?;
-    content.extend_from_slice(record.as_slice())?;
-    content.extend_from_slice(epoch(rt, alloc, 3, &[99, 61])?.as_slice())?;
-    Ok(content)
+    let how = (By::Two, 32);
+    let content = [Bytes::Digits(CATALOGUE), Bytes::Digits(HIGH_WRITTEN)];
+    let records = [(1, (13, 71), Record::Write(0, two_high()))];
+    reads(&rt, alloc, how, &content, (71, 2), &records)?;
+    let content = [
+        Bytes::Digits(CATALOGUE),
+        Bytes::Positions("03 00000105", ends()),
+        Bytes::Digits(ANCHORED_WRITTEN),
+    ];
+    let records = [(2, (274, 324), Record::Write(1, ends_raised()))];
+    reads(&rt, alloc, how, &content, (324, 3), &records)?;
+    let content = [
+        Bytes::Digits(CATALOGUE),
+        Bytes::Positions("03 00000105", ends()),
+        Bytes::Digits(SAME_WRITTEN),
+    ];
+    let records = [(2, (274, 316), Record::Write(1, ends()))];
+    reads(&rt, alloc, how, &content, (316, 3), &records)
 }
 
 /// Epochs are read again, each in its place. They are no anchors: the anchor after one has number 1.
 #[test]
 fn epochs_are_read(rt: HostRuntime) -> Result<(), Fail> {
-    let alloc = rt.alloc();
-    let content = with_epochs(&rt, alloc)?;
-    assert_eq!(rt; content.len(), 124);
-    let placed = decode(alloc, 2, content.as_slice())?;
-    assert_eq!(rt; placed.len(), 5);
-    assert_eq!(rt; place_of(&rt, placed.as_slice(), 1), (13, 38));
-    assert_eq!(rt; place_of(&rt, placed.as_slice(), 2), (38, 59));
-    assert_eq!(rt; place_of(&rt, placed.as_slice(), 3), (59, 99));
-    assert_eq!(rt; place_of(&rt, placed.as_slice(), 4), (99, 124));
-    is_epoch(&rt, &placed[1].entry, 1, &[13, 61]);
-    is_first_write(&rt, &placed[3].entry, 1, &[13, 13]);
-    is_epoch(&rt, &placed[4].entry, 3, &[99, 61]);
-    Ok(())
+    let content = [
+        Bytes::Digits(CATALOGUE),
+        Bytes::Epoch(1, &[13, 61]),
+        Bytes::Anchor(&[13, 13]),
+        Bytes::Written(1, &[13, 13], 1, &[13, 13], 5),
+        Bytes::Epoch(3, &[99, 61]),
+    ];
+    let records = [
+        (1, (13, 38), Record::Epoch(1, &[13, 61])),
+        (2, (38, 59), Record::Other),
+        (3, (59, 99), Record::Write(1, &[13, 13])),
+        (4, (99, 124), Record::Epoch(3, &[99, 61])),
+    ];
+    reads(
+        &rt,
+        rt.alloc(),
+        (By::Decode, 2),
+        &content,
+        (124, 5),
+        &records,
+    )
 }
 
 /// An epoch of format 2 has the bytes of format 1.
 #[test]
 fn epochs_of_both_formats(rt: HostRuntime) -> Result<(), Fail> {
-    let alloc = rt.alloc();
-    let content = content_of(alloc, EPOCH)?;
-    for format in [Format::One, Format::Two] {
-        let placed = decode_as(alloc, format, 2, content.as_slice())?;
-        assert_eq!(rt; placed.len(), 2);
-        assert_eq!(rt; place_of(&rt, placed.as_slice(), 1), (13, 38));
-        is_epoch(&rt, &placed[1].entry, 1, &[13, 61]);
+    let content = [Bytes::Digits(CATALOGUE), Bytes::Digits(EPOCH)];
+    let records = [(1, (13, 38), Record::Epoch(1, &[13, 61]))];
+    for by in [By::One, By::Two] {
+        reads(&rt, rt.alloc(), (by, 2), &content, (38, 2), &records)?;
     }
     Ok(())
 }
@@ -549,19 +633,12 @@ fn vectors_are_kept_short(rt: HostRuntime) -> Result<(), Fail> {
         [53, 0, 61, 77].as_slice(),
         [53, 0, 61, 77, 13].as_slice(),
         [1, 2, 3, 4, 5, 6, 7, 8, 9, 10, 11, 12, 13, 14, 15, 16].as_slice(),
+        ends(),
     ];
     for parts in rows {
         keeps_vector(&rt, rt.alloc(), parts)?;
     }
-    keeps_vector(&rt, rt.alloc(), &ENDS)
-}
-
-/// How many writes there are.
-fn count_of(writes: &KeptWrites) -> usize {
-    match writes.lent() {
-        LentWrites::Numbers(numbers) => numbers.len(),
-        LentWrites::Whole(rows) => rows.len(),
-    }
+    Ok(())
 }
 
 /// Whether these are whole numbers, and just those writes.
@@ -579,23 +656,17 @@ fn keeps_writes(
     short: bool,
 ) -> Result<(), Fail> {
     let kept = KeptWrites::of(alloc, writes)?;
-    match kept.lent() {
-        LentWrites::Numbers(numbers) => {
-            assert!(rt; short);
-            assert!(rt; are_numbers(numbers, writes));
-        }
-        LentWrites::Whole(rows) => {
-            assert!(rt; !short);
-            assert!(rt; rows == writes);
-        }
-    }
+    let same = match kept.lent() {
+        LentWrites::Numbers(numbers) => short && are_numbers(numbers, writes),
+        LentWrites::Whole(rows) => !short && rows == writes,
+    };
+    assert!(rt; same);
     Ok(())
 }
 
 // One or two writes of whole numbers lie in the value itself, and others in a list.
 #[test]
 fn writes_are_kept_short(rt: HostRuntime) -> Result<(), Fail> {
-    let alloc = rt.alloc();
     let all = [
         (Key { table: 0, row: 1 }, Value::Int(5)),
         (Key { table: 0, row: 2 }, Value::Int(i64::MIN)),
@@ -613,20 +684,22 @@ fn writes_are_kept_short(rt: HostRuntime) -> Result<(), Fail> {
     ];
     for (from, past, short) in rows {
         assert!(rt; from <= past && past <= writes.len());
-        keeps_writes(&rt, alloc, &writes[from..past], short)?;
+        keeps_writes(&rt, rt.alloc(), &writes[from..past], short)?;
     }
-    let text = Text64::of("five").ok_or("it is short")?;
-    let texts = [(Key { table: 0, row: 1 }, Value::Text(text))];
-    keeps_writes(&rt, alloc, &texts, false)
+    Ok(())
 }
 
-/// What `decode` finds in the catalogue record and other bytes: 0, or the cause of the record at 13.
-fn cause_of(rt: &impl Abort, alloc: Global, n: u16, rest: &str) -> Result<u8, Fail>
-    requires low { 1 ≤ n }
-    requires high { n ≤ 16 }
-{
-    let content = content_of(alloc, rest)?;
-    match decode(alloc, n, content.as_slice()) {
+#[test]
+fn texts_are_kept_in_a_list(rt: HostRuntime) -> Result<(), Fail> {
+    let texts = [(Key { table: 0, row: 1 }, Value::Text(text_of(&rt, "five")))];
+    keeps_writes(&rt, rt.alloc(), &texts, false)
+}
+
+/// What is found in the catalogue record and other bytes: 0, or the cause of the record at 13.
+fn cause_of(rt: &impl Abort, alloc: Global, by: By, n: u16, rest: &[u8]) -> Result<u8, Fail> {
+    let mut content = bytes_of(alloc, CATALOGUE)?;
+    content.extend_from_slice(rest)?;
+    match decoded(rt, alloc, by, n, content.as_slice()) {
         Ok(_) => Ok(0),
         Err(RecordRefusal::NoMemory) => Ok(100),
         Err(RecordRefusal::Bad(fault)) => {
@@ -637,9 +710,17 @@ fn cause_of(rt: &impl Abort, alloc: Global, n: u16, rest: &str) -> Result<u8, Fa
 }
 
 /// Each of these contents has its cause.
-fn have_causes(rt: &impl Abort, alloc: Global, rows: &[(&str, u8)]) -> Result<(), Fail> {
+fn have_causes(
+    rt: &impl Abort,
+    alloc: Global,
+    by: By,
+    n: u16,
+    rows: &[(&str, u8)],
+) -> Result<(), Fail> {
     for (rest, cause) in rows {
-        assert_eq!(rt; cause_of(rt, alloc, 1, rest)?, *cause, "{rest}");
+        let bytes = bytes_of(alloc, rest)?;
+        let found = cause_of(rt, alloc, by, n, bytes.as_slice())?;
+        assert_eq!(rt; found, *cause, "{rest}");
     }
     Ok(())
 }
@@ -666,7 +747,7 @@ const LENGTHS: [(&str, u8); 14] = [
 
 #[test]
 fn each_cause_at_its_edge(rt: HostRuntime) -> Result<(), Fail> {
-    have_causes(&rt, rt.alloc(), &LENGTHS)
+    have_causes(&rt, rt.alloc(), By::Decode, 1, &LENGTHS)
 }
 
 /// The same of epochs of one stream.
@@ -687,34 +768,53 @@ const EPOCHS: [(&str, u8); 10] = [
 
 #[test]
 fn each_cause_of_an_epoch_at_its_edge(rt: HostRuntime) -> Result<(), Fail> {
-    have_causes(&rt, rt.alloc(), &EPOCHS)
+    have_causes(&rt, rt.alloc(), By::Decode, 1, &EPOCHS)
 }
 
-/// Two epochs of one stream with these numbers, and an anchor between them.
-fn two_epochs(rt: &impl Abort, alloc: Global, first: u32, second: u32) -> Result<Vec<u8>, Fail> {
-    let mut content = content_of(alloc, "")?;
-    content.extend_from_slice(epoch(rt, alloc, first, &[13])?.as_slice())?;
-    content.extend_from_slice(encode_anchor(alloc, &vector(rt, &[30]))?.as_slice())?;
-    content.extend_from_slice(epoch(rt, alloc, second, &[13])?.as_slice())?;
-    Ok(content)
+/// How many records a content of one stream has, or its fault.
+fn found(rt: &impl Abort, alloc: Global, content: &[u8]) -> Result<usize, RecordRefusal> {
+    Ok(decoded(rt, alloc, By::Decode, 1, content)?.len())
+}
+
+/// What is found in two epochs of one stream with these numbers, and an anchor between them.
+fn found_epochs(
+    rt: &impl Abort,
+    alloc: Global,
+    first: u32,
+    second: u32,
+) -> Result<Result<usize, RecordRefusal>, Fail> {
+    let parts = [
+        Bytes::Digits(CATALOGUE),
+        Bytes::Epoch(first, &[13]),
+        Bytes::Anchor(&[30]),
+        Bytes::Epoch(second, &[13]),
+    ];
+    let content = joined(rt, alloc, &parts)?;
+    Ok(found(rt, alloc, content.as_slice()))
+}
+
+/// The record at this place has this fault.
+fn bad(at: u64, cause: RecordCause) -> Result<usize, RecordRefusal> {
+    Err(RecordRefusal::Bad(RecordFault { at, cause }))
 }
 
 /// The numbers of the epochs of a stream rise.
 #[test]
 fn numbers_of_epochs_rise(rt: HostRuntime) -> Result<(), Fail> {
-    let alloc = rt.alloc();
-    for (first, second) in [(1, 2), (1, 7), (7, u32::MAX)] {
-        let content = two_epochs(&rt, alloc, first, second)?;
-        assert_eq!(rt; decode(alloc, 1, content.as_slice())?.len(), 4);
-    }
     // The first stands at 13 and takes 17 bytes, the anchor 13.
-    let body = RecordFault {
-        at: 43,
-        cause: RecordCause::BadBody,
-    };
-    for (first, second) in [(1, 1), (7, 7), (7, 1), (u32::MAX, 7)] {
-        let content = two_epochs(&rt, alloc, first, second)?;
-        refuses(&rt, alloc, content.as_slice(), body);
+    let body = bad(43, RecordCause::BadBody);
+    let rows = [
+        (1, 2, Ok(4)),
+        (1, 7, Ok(4)),
+        (7, u32::MAX, Ok(4)),
+        (1, 1, body),
+        (7, 7, body),
+        (7, 1, body),
+        (u32::MAX, 7, body),
+    ];
+    for (first, second, wanted) in rows {
+        let found = found_epochs(&rt, rt.alloc(), first, second)?;
+        assert!(rt; found == wanted, "{first} and {second}");
     }
     Ok(())
 }
@@ -722,13 +822,9 @@ fn numbers_of_epochs_rise(rt: HostRuntime) -> Result<(), Fail> {
 /// No epoch is the first record of a stream.
 #[test]
 fn no_epoch_comes_first(rt: HostRuntime) -> Result<(), Fail> {
-    let alloc = rt.alloc();
-    let content = epoch(&rt, alloc, 1, &[13])?;
-    let first = RecordFault {
-        at: 0,
-        cause: RecordCause::BadKind,
-    };
-    refuses(&rt, alloc, content.as_slice(), first);
+    let content = epoch(&rt, rt.alloc(), 1, &[13])?;
+    let found = found(&rt, rt.alloc(), content.as_slice());
+    assert!(rt; found == bad(0, RecordCause::BadKind));
     Ok(())
 }
 
@@ -768,39 +864,7 @@ const HEADS: [(&str, u8); 8] = [
 
 #[test]
 fn each_cause_of_a_head_at_its_edge(rt: HostRuntime) -> Result<(), Fail> {
-    have_causes(&rt, rt.alloc(), &HEADS)
-}
-
-/// What `decode_as` finds in the catalogue record and other bytes of format 2: 0, or the cause of the record at 13.
-fn wide_cause_of(rt: &impl Abort, alloc: Global, n: u16, rest: &[u8]) -> Result<u8, Fail> {
-    assert!(rt; 1 <= n && n <= 32);
-    let mut content = content_of(alloc, "")?;
-    content.extend_from_slice(rest)?;
-    match decode_as(alloc, Format::Two, n, content.as_slice()) {
-        Ok(_) => Ok(0),
-        Err(RecordRefusal::NoMemory) => Ok(100),
-        Err(RecordRefusal::Bad(fault)) => {
-            assert_eq!(rt; fault.at, 13);
-            Ok(fault.cause as u8)
-        }
-    }
-}
-
-/// A record of format 2 in a stream of so many has this cause, or 0.
-fn wide_cause_is(
-    rt: &impl Abort,
-    alloc: Global,
-    n: u16,
-    rest: &str,
-    cause: u8,
-) -> Result<(), Fail> {
-    let rest = bytes_of(alloc, rest)?;
-    assert_eq!(rt;
-        wide_cause_of(rt, alloc, n, rest.as_slice())?,
-        cause,
-        "{n} streams"
-    );
-    Ok(())
+    have_causes(&rt, rt.alloc(), By::Decode, 1, &HEADS)
 }
 
 /// Records of format 2 and of the other format, and the cause that is found there in format 2, or 0.
@@ -826,13 +890,9 @@ const WIDE: [(&str, u8); 6] = [
 
 #[test]
 fn each_cause_of_a_wide_head(rt: HostRuntime) -> Result<(), Fail> {
-    let alloc = rt.alloc();
-    for (rest, cause) in WIDE {
-        wide_cause_is(&rt, alloc, 1, rest, cause)?;
-    }
+    have_causes(&rt, rt.alloc(), By::Two, 1, &WIDE)?;
     // In format 1 the count is the second half of the mask.
-    assert_eq!(rt; cause_of(&rt, alloc, 1, WIDE_WRITTEN)?, 6);
-    Ok(())
+    have_causes(&rt, rt.alloc(), By::Decode, 1, &[(WIDE_WRITTEN, 6)])
 }
 
 /// A record with the mask of stream 16, one with that of stream 17, and one with that of stream 31.
@@ -876,48 +936,45 @@ const MASKS: [(u16, &str, u8); 11] = [
 
 #[test]
 fn each_cause_of_a_mask_above_16_bits(rt: HostRuntime) -> Result<(), Fail> {
-    let alloc = rt.alloc();
     for (n, rest, cause) in MASKS {
-        wide_cause_is(&rt, alloc, n, rest, cause)?;
+        have_causes(&rt, rt.alloc(), By::Two, n, &[(rest, cause)])?;
     }
     Ok(())
 }
 
-/// An anchor and an epoch with these components, in a stream of so many, have this cause, or none.
+/// An anchor and an epoch whose components are the first 31 of `ends` and this one, in a stream of so many, have this
+/// cause, or none.
 fn components_have(
     rt: &impl Abort,
     alloc: Global,
     n: u16,
-    lv: &[u64],
+    last: u64,
     cause: u8,
 ) -> Result<(), Fail> {
-    let anchor = with_components(alloc, "03 00000105", lv)?;
-    assert_eq!(rt;
-        wide_cause_of(rt, alloc, n, anchor.as_slice())?,
-        cause,
-        "{n} streams"
-    );
-    let epoch = with_components(alloc, "05 00000109 00000001", lv)?;
-    assert_eq!(rt;
-        wide_cause_of(rt, alloc, n, epoch.as_slice())?,
-        cause,
-        "{n} streams"
-    );
+    for head in ["03 00000105", "05 00000109 00000001"] {
+        let first = ends().get(..31).unwrap_or(&[]);
+        let mut bytes = with_components(alloc, head, first)?;
+        bytes.extend_from_slice(&last.to_be_bytes())?;
+        let found = cause_of(rt, alloc, By::Two, n, bytes.as_slice())?;
+        assert_eq!(rt; found, cause, "{n} streams");
+    }
     Ok(())
 }
 
 /// The components of 32 streams are too many for 31, and the last one is below 2^62.
 #[test]
 fn each_cause_of_32_components(rt: HostRuntime) -> Result<(), Fail> {
-    let alloc = rt.alloc();
-    components_have(&rt, alloc, 32, &ENDS, 0)?;
-    components_have(&rt, alloc, 31, &ENDS, 3)?;
-    components_have(&rt, alloc, 16, &ENDS, 3)?;
-    let mut high = ENDS;
-    high[31] = 0x3fff_ffff_ffff_ffff;
-    components_have(&rt, alloc, 32, &high, 0)?;
-    high[31] = 0x4000_0000_0000_0000;
-    components_have(&rt, alloc, 32, &high, 6)
+    let rows = [
+        (32, 77, 0),
+        (31, 77, 3),
+        (16, 77, 3),
+        (32, 0x3fff_ffff_ffff_ffff, 0),
+        (32, 0x4000_0000_0000_0000, 6),
+    ];
+    for (n, last, cause) in rows {
+        components_have(&rt, rt.alloc(), n, last, cause)?;
+    }
+    Ok(())
 }
 
 /// The same of its writes.
@@ -962,7 +1019,7 @@ const WRITES: [(&str, u8); 11] = [
 
 #[test]
 fn each_cause_of_writes_at_its_edge(rt: HostRuntime) -> Result<(), Fail> {
-    have_causes(&rt, rt.alloc(), &WRITES)
+    have_causes(&rt, rt.alloc(), By::Decode, 1, &WRITES)
 }
 
 /// The same of values and arguments.
@@ -1011,46 +1068,38 @@ const VALUES: [(&str, u8); 11] = [
 
 #[test]
 fn each_cause_of_values_at_its_edge(rt: HostRuntime) -> Result<(), Fail> {
-    have_causes(&rt, rt.alloc(), &VALUES)
+    have_causes(&rt, rt.alloc(), By::Decode, 1, &VALUES)
 }
 
-/// The content with other bytes from a place on.
-fn changed(alloc: Global, content: &[u8], from: usize, change: &str) -> Result<Vec<u8>, Fail> {
-    let change = bytes_of(alloc, change)?;
-    let mut changed = Vec::new(alloc);
-    changed.extend_from_slice(content.get(..from).unwrap_or(&[]))?;
-    changed.extend_from_slice(change.as_slice())?;
-    let past = change.len().saturating_add(from);
-    changed.extend_from_slice(content.get(past..).unwrap_or(&[]))?;
-    Ok(changed)
+/// Puts bytes into a content from a place on.
+fn change(rt: &impl Abort, content: &mut [u8], from: usize, bytes: &[u8]) {
+    for (i, byte) in bytes.iter().enumerate() {
+        let at = from.saturating_add(i);
+        assert!(rt; at < content.len());
+        content[at] = *byte;
+    }
 }
 
-/// The reading of a stream of one refuses this content.
-fn refuses(rt: &impl Abort, alloc: Global, content: &[u8], fault: RecordFault) {
-    let found = decode(alloc, 1, content).err();
-    assert!(rt; found == Some(RecordRefusal::Bad(fault)));
-}
-
-/// The same of a content of 53 bytes with other bytes from a place on.
-fn refuses_change(
+/// What is found in the content of the catalogue record and the record of call 1, with other bytes from a place on.
+fn found_changed(
     rt: &impl Abort,
     alloc: Global,
-    content: &[u8],
     from: usize,
-    change: &str,
-    fault: RecordFault,
-) -> Result<(), Fail> {
-    let changed = changed(alloc, content, from, change)?;
-    assert_eq!(rt; changed.len(), 53, "{from}");
-    refuses(rt, alloc, changed.as_slice(), fault);
-    Ok(())
+    bytes: &str,
+) -> Result<Result<usize, RecordRefusal>, Fail> {
+    let mut content = joined(
+        rt,
+        alloc,
+        &[Bytes::Digits(CATALOGUE), Bytes::Digits(WRITTEN)],
+    )?;
+    let bytes = bytes_of(alloc, bytes)?;
+    change(rt, content.as_mut_slice(), from, bytes.as_slice());
+    assert_eq!(rt; content.len(), 53);
+    Ok(found(rt, alloc, content.as_slice()))
 }
 
-/// The content of the catalogue record and the record of call 1, with other bytes from a place on.
 #[test]
 fn hostile_contents(rt: HostRuntime) -> Result<(), Fail> {
-    let alloc = rt.alloc();
-    let content = content_of(alloc, WRITTEN)?;
     let rows = [
         (0, "01", RecordCause::BadKind, 0),
         (13, "09", RecordCause::BadKind, 13),
@@ -1061,9 +1110,9 @@ fn hostile_contents(rt: HostRuntime) -> Result<(), Fail> {
         (32, "0000", RecordCause::BadBody, 13),
         (44, "03", RecordCause::BadBody, 13),
     ];
-    for (from, change, cause, at) in rows {
-        let content = content.as_slice();
-        refuses_change(&rt, alloc, content, from, change, RecordFault { at, cause })?;
+    for (from, bytes, cause, at) in rows {
+        let found = found_changed(&rt, rt.alloc(), from, bytes)?;
+        assert!(rt; found == bad(at, cause), "{bytes} from {from} on");
     }
     Ok(())
 }
@@ -1081,31 +1130,26 @@ fn longer_by_one(alloc: Global, head: &str, text: &[u8]) -> Result<Vec<u8>, Fail
 fn longest_catalogue(rt: HostRuntime) -> Result<(), Fail> {
     let alloc = rt.alloc();
     let text = Vec::from_elem(alloc, 32u8, 32_768)?;
-    assert!(rt; text.len() <= 32_768);
-    let mut content = encode_catalogue(alloc, text.as_slice())?;
-    assert_eq!(rt; decode(alloc, 1, content.as_slice())?.len(), 1);
+    let mut content = catalogue(&rt, alloc, text.as_slice())?;
+    assert!(rt; found(&rt, alloc, content.as_slice()) == Ok(1));
     content.push(32)?;
-    let longer = RecordFault {
-        at: 32_773,
-        cause: RecordCause::BadKind,
-    };
-    refuses(&rt, alloc, content.as_slice(), longer);
+    let longer = bad(32_773, RecordCause::BadKind);
+    assert!(rt; found(&rt, alloc, content.as_slice()) == longer);
     let above = longer_by_one(alloc, "04 00008006", text.as_slice())?;
-    let body = RecordFault {
-        at: 0,
-        cause: RecordCause::BadBody,
-    };
-    refuses(&rt, alloc, above.as_slice(), body);
+    let body = bad(0, RecordCause::BadBody);
+    assert!(rt; found(&rt, alloc, above.as_slice()) == body);
     Ok(())
 }
 
 /// The record of one write of the longest text, above no anchor and with an empty mask.
 #[test]
 fn longest_record_of_one_write(rt: HostRuntime) -> Result<(), Fail> {
-    let text = Text64::of("xxxxxxxxxxxxxxxxxxxxxxxxxxxxxxxxxxxxxxxxxxxxxxxxxxxxxxxxxxxxxxxx");
-    let value = Value::Text(text.ok_or("long")?);
-    let zero = Lv::zero(16);
-    let one = put(&rt, rt.alloc(), 1, 0, &zero, &zero, value)?;
+    let text = text_of(
+        &rt,
+        "xxxxxxxxxxxxxxxxxxxxxxxxxxxxxxxxxxxxxxxxxxxxxxxxxxxxxxxxxxxxxxxx",
+    );
+    let value = Value::Text(text);
+    let one = written(&rt, rt.alloc(), 1, &[0; 16], 0, &[0; 16], value)?;
     assert_eq!(rt; one.len(), 98);
     Ok(())
 }
@@ -1123,12 +1167,12 @@ fn repeated(alloc: Global, record: &[u8], count: u32) -> Result<Vec<u8>, Fail> {
 #[test]
 fn many_records(rt: HostRuntime) -> Result<(), Fail> {
     let alloc = rt.alloc();
-    let zero = Lv::zero(2);
-    let record = put(&rt, alloc, 2, 0, &zero.with(0, 53), &zero, Value::Int(7))?;
+    let record = written(&rt, alloc, 2, &[53, 0], 0, &[0, 0], Value::Int(7))?;
     let content = repeated(alloc, record.as_slice(), 200_000)?;
     assert_eq!(rt; content.len(), 9_600_013);
-    let placed = decode(alloc, 2, content.as_slice())?;
+    let placed = decoded(&rt, alloc, By::Decode, 2, content.as_slice())?;
     assert_eq!(rt; placed.len(), 200_001);
-    assert_eq!(rt; place_of(&rt, placed.as_slice(), 200_000).1, 9_600_013);
+    assert!(rt; 200_000 < placed.len());
+    assert_eq!(rt; placed[200_000].past, 9_600_013);
     Ok(())
 }
