@@ -30,6 +30,10 @@ const CATALOGUE_AND_EPOCH: &[u8] =
 const EPOCH_ALONE: &[u8] =
     b"\x05\x00\x00\x00\x19\x00\x00\x00\x01\x00\x00\x00\x00\x00\x00\x00\x00\x00\x00\x00\x00\x00\x00\x00\x0d";
 
+// An anchor with the vector (53,13).
+const ANCHOR: &[u8] =
+    b"\x03\x00\x00\x00\x15\x00\x00\x00\x00\x00\x00\x00\x35\x00\x00\x00\x00\x00\x00\x00\x0d";
+
 // Both streams hold the catalogue alone.
 fn begun(rt: &impl Abort, alloc: Global, disks: &[tau_disk::MemDisk]) -> Result<(), Fail> {
     holds(rt, disks, 0, &image(alloc, HEADS[0], &[CATALOGUE])?)?;
@@ -244,5 +248,25 @@ fn wide_streams(rt: HostRuntime) -> Result<(), Fail> {
                 cause: LogCause::Format { asked: 1, found: 2 },
             }))
     );
+    Ok(())
+}
+
+#[test]
+fn anchors_that_are_there_are_counted(rt: HostRuntime) -> Result<(), Fail> {
+    let alloc = rt.alloc();
+    let first = image(alloc, HEADS[0], &[CATALOGUE, PUT, ANCHOR])?;
+    let second = image(alloc, HEADS[1], &[CATALOGUE, ANCHOR, ANCHOR])?;
+    let mut disks = two(alloc, &first, &second)?;
+    let told = opened(alloc, &mut disks, Format::One, b"table a\n")?;
+    assert!(rt; told.refusal == None);
+    assert_eq!(rt; told.floor, [74, 55]);
+    assert_eq!(rt; told.ends, [99, 80]);
+    assert_eq!(rt; told.anchors, [1, 2]);
+    // Of the next run the epochs between are no anchors.
+    let told = opened(alloc, &mut disks, Format::One, b"table a\n")?;
+    assert!(rt; told.refusal == None);
+    assert_eq!(rt; told.floor, [99, 80]);
+    assert_eq!(rt; told.ends, [124, 105]);
+    assert_eq!(rt; told.anchors, [1, 2]);
     Ok(())
 }
