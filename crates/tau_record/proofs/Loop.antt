@@ -39,6 +39,22 @@ parts_go_on base dep j mask part bytes after total lt width h so_far =
     = rw (drop-cons base j 0 lt, h) (regroup (take j dep) part (parts_at (drop (suc j) base) (mask / 2) after)) in
     rw (k, take-suc-set dep j part (omega (arith, width, lt))) (sym one ∙ so_far)
 
+-- the same of a list to which each part is added
+pub parts_add : (base front : List ℕ) (j mask part : ℕ) (bytes after : List ℕ) (total : Result (List ℕ × List ℕ) RecordCause) → j < length base → part_at (get_or base j 0) (mask % 2) bytes ≡ Ok (part, after)
+    → with_front front (parts_at (drop j base) mask bytes) ≡ total → with_front (front ++ part ∷ []) (parts_at (drop (j + 1) base) (mask / 2) after) ≡ total
+unfolding parts_at
+parts_add base front j mask part bytes after total lt h so_far =
+    let k : j + 1 ≡ suc j = omega arith in
+    let one : with_front front (parts_at (drop j base) mask bytes) ≡ with_front (front ++ part ∷ []) (parts_at (drop (suc j) base) (mask / 2) after)
+    = rw (drop-cons base j 0 lt, h) (regroup front part (parts_at (drop (suc j) base) (mask / 2) after)) in
+    rw k (sym one ∙ so_far)
+
+pub parts_all : (base front : List ℕ) (j mask : ℕ) (bytes : List ℕ) (total : Result (List ℕ × List ℕ) RecordCause) → length base ≤ j → with_front front (parts_at (drop j base) mask bytes) ≡ total → total ≡ Ok (front, bytes)
+unfolding parts_at
+parts_all base front j mask bytes total le so_far =
+    let one : with_front front (parts_at (drop j base) mask bytes) ≡ Ok (front, bytes) = rw (drop_all j base le) (ap (λ (ns : List ℕ). Ok (ns, bytes)) (append-nil front)) in
+    sym so_far ∙ one
+
 pub parts_end : (e : FieldError) (base front : List ℕ) (j mask : ℕ) (bytes : List ℕ) (total : Result (List ℕ × List ℕ) RecordCause) → j < length base → Fails e (part_at (get_or base j 0) (mask % 2) bytes)
     → with_front front (parts_at (drop j base) mask bytes) ≡ total → Fails e total
 unfolding parts_at

@@ -183,11 +183,7 @@ mask_bits (low ∷ base) (part ∷ dep) (suc j) len lt =
 
 -- ---- a mask with no bits
 
-parts_none : (base bytes : List ℕ) → parts_at base 0 bytes ≡ Ok (base, bytes)
+pub parts_none : (base bytes : List ℕ) → parts_at base 0 bytes ≡ Ok (base, bytes)
 unfolding parts_at part_at
 parts_none [] bytes = refl
 parts_none (low ∷ base) bytes = rw (parts_none base bytes) refl
-
-pub vector_none : (f : Format) (base bytes : List ℕ) (mask : ℕ) (rest : List ℕ) → number_at (mask_width f) bytes ≡ Ok (mask, rest) → mask ≡ 0 → vector_at f base bytes ≡ Ok (base, rest)
-unfolding vector_at
-vector_none f base bytes mask rest h none = rw (h, none, leb_not (2 ^ length base) 0 (pow_pos (length base))) (parts_none base rest)

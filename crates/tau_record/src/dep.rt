@@ -8,11 +8,14 @@ use std::marker::Model;
 use tau_base::{Lv, NoMemory};
 
 /// Vectors of so many positions lie in the value itself.
-const SHORT_WIDTH: usize = 4;
+pub(crate) const SHORT_WIDTH: usize = 4;
+
+/// A few positions.
+pub(crate) type Short = ArrayVec<u64, SHORT_WIDTH>;
 
 #[derive(Debug, Drop)]
 enum Parts {
-    Short(ArrayVec<u64, SHORT_WIDTH>),
+    Short(Short),
     Whole(Box<Lv>),
 }
 
@@ -37,16 +40,24 @@ impl KeptLv {
         ensures { IfOk result (λ kept. kept ≡ lv.now) }
     {
         match short_of(lv) {
-            Some(short) => Ok(KeptLv {
-                parts: Parts::Short(short),
-            }),
+            Some(short) => Ok(KeptLv::short(short)),
             None => KeptLv::whole(alloc, lv),
+        }
+    }
+
+    /// The vector of these positions.
+    #[inline(always)]
+    pub(crate) fn short(positions: Short) -> KeptLv
+        ensures { result ≡ positions.items }
+    {
+        KeptLv {
+            parts: Parts::Short(positions),
         }
     }
 
     /// The same vector, in a box.
     #[inline(never)]
-    fn whole(alloc: Global, lv: &Lv) -> Result<KeptLv, NoMemory>
+    pub(crate) fn whole(alloc: Global, lv: &Lv) -> Result<KeptLv, NoMemory>
         ensures { IfOk result (λ kept. kept ≡ lv.now) }
     {
         Ok(KeptLv {
@@ -67,7 +78,7 @@ impl KeptLv {
 }
 
 /// The positions, if they are few.
-fn short_of(lv: &Lv) -> Option<ArrayVec<u64, SHORT_WIDTH>>
+fn short_of(lv: &Lv) -> Option<Short>
     ensures { IfSome result (λ short. short.items ≡ lv.now) }
 {
     let positions = lv.as_slice();

@@ -41,6 +41,7 @@ fn origin_of<'a>(
 }
 
 /// The fields of a data record. Its vector may be read by way of `dep`, and its writes by way of `writes`.
+#[inline(always)]
 #[tactic(auto, unfolding(crate::specs::Record::written_at))]
 pub(crate) fn written_of<'a>(
     alloc: Global,
@@ -65,6 +66,7 @@ pub(crate) fn written_of<'a>(
 }
 
 /// The fields of a command record but its call, which goes into `call`. Its vector may be read by way of `dep`.
+#[inline(always)]
 #[tactic(auto, unfolding(crate::specs::Record::command_at))]
 pub(crate) fn command_of<'a>(
     alloc: Global,

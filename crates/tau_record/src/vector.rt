@@ -3,13 +3,15 @@ ghost use Rattle.std.specs.Prelude.{◌≡◌, ◌<◌, ◌≤◌, ◌*◌, ◌^
 ghost use Rattle.std.specs.Int.{w64, bit_at, byte_len, to_be_bytes};
 ghost use Rattle.std.specs.List.{flat_map};
 ghost use Rattle.tau_base.specs.Vectors.{AtMost, join};
+ghost use Rattle.tau_record.specs.declared.dep.TheConstants.{SHORT_WIDTH};
 ghost use Rattle.tau_record.specs.Field.{Gives, number_at};
 ghost use Rattle.tau_record.specs.Format.{One, Two, mask_width, most_streams};
 ghost use Rattle.tau_record.specs.Vector.{ArePlaces, mask_of, above, vector, part_at, parts_at, vector_at};
 
-use crate::dep::KeptLv;
+use crate::dep::{KeptLv, SHORT_WIDTH, Short};
 use crate::fault::{FieldError, RecordCause};
 use crate::field::{u16_of, u32_of, u64_of};
+use arrayvec::ArrayVec;
 use std::alloc::{AllocError, Global};
 use tau_base::{Format, Lv, MAX_LSN};
 
@@ -49,6 +51,28 @@ fn parts_of<'a>(base: &Lv, mask: u32, bytes: &'a [u8], dep: &mut Lv) -> Result<&
     Ok(rest)
 }
 
+/// Reads the parts of a vector of few positions, and keeps each at once.
+#[inline(always)]
+fn short_parts_of<'a>(
+    base: &Lv,
+    mask: u32,
+    bytes: &'a [u8],
+) -> Result<(Short, &'a [u8]), FieldError>
+    requires { length base.now ≤ SHORT_WIDTH }
+    ensures { Gives (λ x. (x.0.items, x.1.now)) result (parts_at base.now mask bytes.now) }
+{
+    let mut short = ArrayVec::new();
+    let mut left = mask;
+    let mut rest = bytes;
+    for j in 0..base.width() {
+        let (part, after) = part_of(base.get(j), left % 2, rest)?;
+        short.push(part);
+        left /= 2;
+        rest = after;
+    }
+    Ok((short, rest))
+}
+
 /// Reads a mask, in the width of the format.
 #[tactic(auto, unfolding(crate::specs::Format::mask_width))]
 fn read_mask(format: Format, bytes: &[u8]) -> Result<(u32, &[u8]), FieldError>
@@ -63,7 +87,26 @@ fn read_mask(format: Format, bytes: &[u8]) -> Result<(u32, &[u8]), FieldError>
     }
 }
 
-/// Reads a vector above a base, by way of `dep` unless it is the base's.
+/// Reads the parts of a vector of many positions, by way of `dep` unless it is the base's.
+#[inline(never)]
+fn long_parts_of<'a>(
+    alloc: Global,
+    base: &Lv,
+    mask: u32,
+    bytes: &'a [u8],
+    dep: &mut Lv,
+) -> Result<(KeptLv, &'a [u8]), FieldError>
+    ensures { Gives (λ x. (x.0, x.1.now)) result (parts_at base.now mask bytes.now) }
+{
+    if mask == 0 {
+        return Ok((KeptLv::whole(alloc, base)?, bytes));
+    }
+    let rest = parts_of(base, mask, bytes, dep)?;
+    Ok((KeptLv::whole(alloc, dep)?, rest))
+}
+
+/// Reads a vector above a base, by way of `dep` if it is long and not the base's.
+#[inline(always)]
 #[tactic(auto, unfolding(crate::specs::Vector::vector_at))]
 pub(crate) fn vector_of<'a>(
     alloc: Global,
@@ -75,14 +118,14 @@ pub(crate) fn vector_of<'a>(
     ensures { Gives (λ x. (x.0, x.1.now)) result (vector_at format base.now bytes.now) }
 {
     let (mask, rest) = read_mask(format, bytes)?;
-    if mask == 0 {
-        return Ok((KeptLv::of(alloc, base)?, rest));
-    }
     if u64::from(mask) >= 1 << base.width() {
         return Err(FieldError::Bad(RecordCause::BadMask));
     }
-    let rest = parts_of(base, mask, rest, dep)?;
-    Ok((KeptLv::of(alloc, dep)?, rest))
+    if base.width() > SHORT_WIDTH {
+        return long_parts_of(alloc, base, mask, rest, dep);
+    }
+    let (short, rest) = short_parts_of(base, mask, rest)?;
+    Ok((KeptLv::short(short), rest))
 }
 
 // ---- writing
