@@ -6,6 +6,7 @@ mod fate;
 mod lines;
 mod recovery;
 mod report;
+mod taken_line;
 mod texts;
 mod words;
 

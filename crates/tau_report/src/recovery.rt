@@ -8,7 +8,8 @@ ghost use Rattle.tau_report.specs.Lines.{line};
 ghost use Rattle.tau_report.specs.Recovery.{elv_line, taken_lines, recover_text};
 
 use crate::lines::{put_end, put_rows};
-use crate::words::{next_number, next_vector, put_number};
+use crate::taken_line::{self, Line, put_line};
+use crate::words::next_vector;
 use std::alloc::{AllocError, Global};
 use tau_base::{Listed, Lv, NoMemory};
 use tau_model::Tables;
@@ -24,9 +25,10 @@ fn put_elv(out: &mut Vec<u8>, elv: &Lv) -> Result<(), AllocError>
     Ok(())
 }
 
-/// The line of a record of that call, where it is taken.
+/// The line of a record of that call, if it is taken, by way of the place.
 fn put_taken(
     out: &mut Vec<u8>,
+    place: &mut Line,
     taken: bool,
     stream: u64,
     start: u64,
@@ -37,22 +39,24 @@ fn put_taken(
     if !taken {
         return Ok(());
     }
-    out.extend_from_slice(b"taken ")?;
-    put_number(out, stream)?;
-    next_number(out, start)?;
-    next_number(out, number)?;
-    out.push(b'\n')?;
-    Ok(())
+    put_line(out, place, stream, start, number)
 }
 
-/// The line of a record that is judged against this vector, where it is taken.
-fn put_record(out: &mut Vec<u8>, lv: &Lv, stream: u64, placed: &Placed) -> Result<(), AllocError>
+/// The line of a record that is judged against this vector, if it is taken, by way of the place.
+fn put_record(
+    out: &mut Vec<u8>,
+    place: &mut Line,
+    lv: &Lv,
+    stream: u64,
+    placed: &Placed,
+) -> Result<(), AllocError>
     ensures { OnOk result (out.new.items ≡ out.old.items ++ taken_lines (filter (λ r. covers lv.now r.place.dep) (kept_as stream placed.now placed.now.entry))) }
 {
     match &placed.entry {
         Entry::Written { number, dep, .. } => {
             put_taken(
                 out,
+                place,
                 lv.covers_all(dep.as_slice()),
                 stream,
                 placed.start,
@@ -62,6 +66,7 @@ fn put_record(out: &mut Vec<u8>, lv: &Lv, stream: u64, placed: &Placed) -> Resul
         Entry::Command { number, dep, .. } => {
             put_taken(
                 out,
+                place,
                 lv.covers_all(dep.as_slice()),
                 stream,
                 placed.start,
@@ -84,8 +89,9 @@ fn put_stream(
     ensures { OnOk result (out.new.items ≡ out.old.items ++ taken_lines (taken_in (vector_by judge.now) stream 0 records.now)) }
 {
     let mut lv = judge.vector(0);
+    let mut place = taken_line::place();
     for placed in records {
-        put_record(out, &lv, stream, placed)?;
+        put_record(out, &mut place, &lv, stream, placed)?;
         judge.pass(&mut lv, &placed.entry);
     }
     Ok(())
