@@ -37,6 +37,7 @@ pub fn declarations_in(alloc: Global, text: &[u8]) -> Result<Declarations, NoMem
 }
 
 /// Whether it is the canonical text of declarations.
+#[inline(never)]
 fn is_canonical(alloc: Global, text: &[u8]) -> Result<bool, NoMemory>
     ensures { IfOk result (λ b. b ≡ is_ok (declarations_of text.now)) }
 {
@@ -104,6 +105,7 @@ fn is_of_table(declarations: &Declarations, call: &Call) -> bool
 }
 
 /// Whether what a call names is declared. The call is put into a place that is kept.
+#[inline(never)]
 fn is_declared_call(declarations: &Declarations, kept: &KeptCall, place: &mut Call) -> bool
     ensures { result ≡ (takes declarations.now.procs kept.now && is_of_table declarations.now kept.now) }
 {
@@ -112,6 +114,7 @@ fn is_declared_call(declarations: &Declarations, kept: &KeptCall, place: &mut Ca
 }
 
 /// Whether what the record names is declared. A call is put into a place that is kept.
+#[inline(always)]
 pub fn is_declared(
     alloc: Global,
     declarations: &Declarations,
