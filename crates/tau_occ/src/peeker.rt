@@ -104,6 +104,13 @@ impl Peeker {
         Ok(())
     }
 
+    /// Whether nothing was seen of the call.
+    pub fn is_empty(&self) -> bool
+        ensures { IsTrue result ↔ (self.now.seen ≡ []) }
+    {
+        self.seen.is_empty()
+    }
+
     /// Whether this value was seen for the key.
     pub fn agrees(&self, key: Key, value: Value) -> bool
         ensures { IsTrue result ↔ (lookup (same_key key) self.now.seen ≡ Some value) }
