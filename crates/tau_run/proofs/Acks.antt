@@ -16,11 +16,9 @@ use Rattle.tau_machine.proofs.Accounts.{committed_append}
 use Rattle.tau_machine.proofs.At.{at_other}
 use Rattle.tau_machine.proofs.Runs.{run_invariant}
 use Rattle.tau_run.specs.Run.{pair_of}
-use Rattle.tau_run.specs.Laws.{TurnsAreARun}
-use Rattle.tau_run.specs.Turns.{Progress, begun, Goes, Tells, IsWholeRun, IsPartOfRun}
-use Rattle.tau_text.specs.declared.load.Turn.{Turn}
+use Rattle.tau_run.specs.Turns.{Progress, begun, Goes, Tells}
 use Rattle.tau_run.proofs.Counts.{count_member, count_tickets}
-use Rattle.tau_run.proofs.Led.{IsLed, IsQuiet, goes_led, tells_led, begun_led, whole_run, part_of_run}
+use Rattle.tau_run.proofs.Led.{IsLed, IsQuiet, goes_led, tells_led, begun_led}
 use Rattle.tau_run.proofs.Lists.{filter_append}
 
 gathered_acked : (set : Setting) (j : ℕ) (s s' : Core) → Gathered set j s s' → s'.acked ≡ s.acked
@@ -68,13 +66,13 @@ pub record IsTold (set : Setting) (opening : Core) (p : Progress) : Type 0 where
   pub told : AreTold set p
 
 module _ (set : Setting) (m n : ℕ) (opening : Core) (opens : IsOpening set opening) where
-  goes_told : (e : Event) (p p' : Progress) → IsQuiet e → IsTold set opening p → Goes set m n e p p' → IsTold set opening p'
+  pub goes_told : (e : Event) (p p' : Progress) → IsQuiet e → IsTold set opening p → Goes set m n e p p' → IsTold set opening p'
   goes_told e p p' q t g = record {
     led = goes_led set m n opening e p p' q t.led g;
     told = λ w. ap (filter (λ (a : ℕ × List ℕ). set.worker_of a.0 == w)) g.told ∙ t.told w ∙ ap (λ (f : ℕ → List Ticket). map pair_of (f w)) (sym (quiet_acked set e p.state p'.state g.new q g.leads));
   }
 
-  tells_told : (w : ℕ) (p p' : Progress) → IsTold set opening p → Tells set m n w p p' → IsTold set opening p'
+  pub tells_told : (w : ℕ) (p p' : Progress) → IsTold set opening p → Tells set m n w p p' → IsTold set opening p'
   tells_told w p p' t g = record { led = tells_led set m n opening w p p' t.led g; told = by_worker }
     where
       own : set.worker_of g.ticket.number ≡ w
@@ -102,17 +100,5 @@ module _ (set : Setting) (m n : ℕ) (opening : Core) (opens : IsOpening set ope
             more u ∙ ap (λ (l : List (ℕ × List ℕ)). map pair_of (p.state.acked u) ++ l) none ∙ append-nil (map pair_of (p.state.acked u)) ∙ ap (map pair_of) (sym same)
       ]
 
-  begun_told : IsTold set opening (begun opening)
+  pub begun_told : IsTold set opening (begun opening)
   begun_told = record { led = begun_led set opening; told = λ w. ap (map pair_of) (sym (opens.acked w)) }
-
-  pub whole_told : (turns : List Turn) (p : Progress) → IsWholeRun set m n turns opening p → IsTold set opening p
-  whole_told turns p r = whole_run set m n (IsTold set opening) goes_told tells_told turns opening p begun_told r
-
-  pub part_told : (turns : List Turn) (p : Progress) → IsPartOfRun set m n turns opening p → IsTold set opening p
-  part_told turns p r = part_of_run set m n (IsTold set opening) goes_told tells_told turns opening p begun_told r
-
-pub turns_law : TurnsAreARun
-turns_law set m n turns opening p opens r = elim r [
-  | inl whole ↦ let t = whole_told set m n opening opens turns p whole in (record { opens = opens; leads = t.led.leads }, t.led.keep, t.told)
-  | inr part ↦ let t = part_told set m n opening opens turns p part in (record { opens = opens; leads = t.led.leads }, t.led.keep, t.told)
-]

@@ -43,3 +43,9 @@ pub mod Bodies
 pub mod Came
 pub mod Told
 pub mod Durable
+pub mod Steps
+pub mod Still
+pub mod StepsLed
+pub mod LateSteps
+pub mod Peeked
+pub mod Optimistic

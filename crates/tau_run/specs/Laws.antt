@@ -1,5 +1,5 @@
 -- What holds of every run, whatever its events.
-use Rattle.std.specs.Prelude.{ℕ, ◌⊎◌, ◌==◌, map, false, ◌++◌, ◌∷◌, ◌<◌, ◌≤◌, ◌+◌, ◌≡◌, ◌↔◌, true, List, [], length, take, slice_get, slice_index, slice_index_or, Option, Some, None, Ok}
+use Rattle.std.specs.Prelude.{ℕ, false, ◌++◌, ◌∷◌, ◌<◌, ◌≤◌, ◌+◌, ◌≡◌, ◌↔◌, true, List, [], length, take, slice_get, slice_index, slice_index_or, Option, Some, None, Ok}
 use Rattle.std.specs.List.{filter}
 use Rattle.tau_base.specs.declared.value.LogMode.{LogMode}
 use Rattle.tau_base.specs.Modes.{format_of, most_streams}
@@ -31,7 +31,7 @@ use Rattle.tau_epoch_laws.specs.Laws.{starts_in}
 use Rattle.tau_epoch_laws.specs.Marked.{AreMarked}
 use Rattle.tau_scan.specs.Sound.{fresh_log, IsSound}
 use Rattle.tau_run.specs.Start.{Start, fresh_start, catalogue_of, old_at, opened_at, IsStart}
-use Rattle.tau_run.specs.Run.{Committed, Run, means, pair_of, IsHistory, acts, records_in, has_ack, vector_of, AllAcked}
+use Rattle.tau_run.specs.Run.{Committed, Run, means, IsHistory, acts, records_in, has_ack, vector_of, AllAcked}
 use Rattle.tau_run.specs.RecoveredFacts.{takes, IsRecovered}
 use Rattle.tau_base.specs.declared.value.Call.{Call}
 use Rattle.tau_proc.specs.Takes.{takes as takes_call}
@@ -41,9 +41,7 @@ use Rattle.tau_record.specs.Vector.{ArePlaces}
 use Rattle.tau_epoch.specs.Epochs.{largest}
 use Rattle.tau_scan.specs.Epochs.{marks_of}
 use Rattle.tau_run.specs.CoreRun.{IsLoadOn, IsFirstState, AreAcks, IsRunOf, IsSoundLoad, IsCourse}
-use Rattle.tau_text.specs.declared.load.Turn.{Turn}
-use Rattle.tau_machine.specs.Runs.{IsOpening}
-use Rattle.tau_run.specs.Turns.{Progress, IsWholeRun, IsPartOfRun}
+use Rattle.tau_occ.specs.declared.style.Style.{Style}
 use Rattle.tau_run.specs.RunFacts.{DiskFailed, IsCoreRun, IsCoreRunAt, chosen_by}
 use Rattle.tau_run.specs.StopsLeave.{HasFront, IsLeft, IsOver, NamesLowest}
 use Rattle.tau_run.specs.Lives.{Life, IsLife, AreLives, taken_calls, last_contents, last_log, all_taken, exec_lives}
@@ -124,17 +122,11 @@ abbrev pub NothingIsLost : Type 0
 NothingIsLost = (n m : ℕ) (mode : LogMode) (load : Workload) (l : Load) (K : List (Act Txn)) (s : Core) → (run : Run) → IsCourse n m mode load run.start l K s → IsRunOf n l K s load run →
     (opening : Core) (events : List Event) → machine.Run (setting_of l) opening events K s → KeepCalls events → AllWait load opening → IsOver n s → ((j : ℕ) → j < n → (s.streams j).stop ≡ None) → AllAcked load run
 
--- A run by turns, whole or a part, is a run of the machine by its events, with its commit order; no call is given up in
--- it; and what it told are the acknowledgements of each worker, in their order.
-abbrev pub TurnsAreARun : Type 0
-TurnsAreARun = (set : Setting) (m n : ℕ) (turns : List Turn) (opening : Core) (p : Progress) → IsOpening set opening → IsWholeRun set m n turns opening p ⊎ IsPartOfRun set m n turns opening p →
-    machine.Run set opening p.events p.joined p.state × KeepCalls p.events × ((w : ℕ) → filter (λ (a : ℕ × List ℕ). set.worker_of a.0 == w) p.told ≡ map pair_of (p.state.acked w))
-
 -- A run of which the report was written, with the stream whose disk failed, is one of all its events: of a run that was not
 -- begun no such report is written.
 abbrev pub ToldIsWhole : Type 0
-ToldIsWhole = (n m : ℕ) (mode : LogMode) (load : Workload) (stops : ℕ → Option ℕ) (run : Run) (j : ℕ) → IsCoreRunAt (chosen_by load.turns n m load) n m mode load stops run (DiskFailed j) → NamesLowest n stops (Some j) →
-    IsCoreRun (chosen_by load.turns n m load true) n m mode load stops run
+ToldIsWhole = (style : Style) (n m : ℕ) (mode : LogMode) (load : Workload) (stops : ℕ → Option ℕ) (run : Run) (j : ℕ) → IsCoreRunAt (chosen_by load.turns style n m load) n m mode load stops run (DiskFailed j) → NamesLowest n stops (Some j) →
+    IsCoreRun (chosen_by load.turns style n m load true) n m mode load stops run
 
 -- Any number of runs and stops on a sound log leave a sound one, whose database is that of executing the calls that are
 -- taken, run after run; and what each stop left is what was there and a closed part of the history.

@@ -12,3 +12,6 @@ pub mod Writers
 pub mod Gives
 pub mod Laws
 pub mod RunFacts
+pub mod Schedule
+pub mod Fits
+pub mod ScheduleLaws

@@ -1,6 +1,9 @@
 -- All that is said of a run, of one history.
 use Rattle.std.specs.Prelude.{ℕ, ◌<◌, ◌≤◌, ◌≡◌, ◌⊎◌, Bool, true, false, List, [], length, take, Option, Some, None, unwrap_or}
+use Rattle.tau_base.specs.declared.value.Key.{Key}
 use Rattle.tau_base.specs.declared.value.LogMode.{LogMode}
+use Rattle.tau_base.specs.declared.value.Value.{Value}
+use Rattle.tau_occ.specs.declared.style.Style.{Style}
 use Rattle.tau_text.specs.declared.load.Turn.{Turn}
 use Rattle.tau_text.specs.declared.load.Workload.{Workload}
 use Rattle.tau_report.specs.Report.{ack_lines}
@@ -13,7 +16,8 @@ use Rattle.tau_run.specs.Run.{Run, IsHistory, IsReportOf, AllAcked}
 use Rattle.tau_run.specs.RecoveredFacts.{IsImaged, IsAcknowledged, IsEnded}
 use Rattle.tau_run.specs.CoreRun.{IsLoadOn, IsFirstState, IsRunOf}
 use Rattle.tau_run.specs.StopsLeave.{NamesLowest}
-use Rattle.tau_run.specs.Turns.{Progress, IsWholeRun, IsPartOfRun}
+use Rattle.tau_run.specs.Turns.{Progress}
+use Rattle.tau_run.specs.Schedule.{IsWhole, IsPart, peeked}
 
 -- how a run ended: it went to its end, a disk failed, the sink failed, it ran out of memory, or it was not begun
 pub data Ending : Type 0 where
@@ -43,21 +47,22 @@ RunTells ended n load stops sink_rose opening made wrote fault run NotBegun = (r
 abbrev pub turns_of : Workload → List Turn
 turns_of load = unwrap_or load.turns []
 
-abbrev pub IsByTurns : Bool → ℕ → ℕ → Workload → Load → Core → Progress → Type 0
-IsByTurns true n m load l opening p = IsWholeRun (setting_of l) m n (turns_of load) opening p
-IsByTurns false n m load l opening p = IsPartOfRun (setting_of l) m n (turns_of load) opening p
+-- in this style, whatever its workers have peeked
+abbrev pub IsByTurns : Style → Bool → ℕ → ℕ → Workload → Load → Core → Progress → Type 0
+IsByTurns style true n m load l opening p = (peeks : ℕ → List (Key × Value)) × IsWhole (setting_of l) m n style (turns_of load) opening (peeked p peeks)
+IsByTurns style false n m load l opening p = (peeks : ℕ → List (Key × Value)) × IsPart (setting_of l) m n style (turns_of load) opening (peeked p peeks)
 
 -- How the events of a run were chosen, of a whole run (true) or of a first part: by turns; in threads, any events in any
 -- order. A workload that has turns is run by them, any other in threads.
-abbrev pub by_turns : ℕ → ℕ → Workload → Bool → Load → Core → Progress → Type 0
-by_turns n m load whole l opening p = IsByTurns whole n m load l opening p
+abbrev pub by_turns : Style → ℕ → ℕ → Workload → Bool → Load → Core → Progress → Type 0
+by_turns style n m load whole l opening p = IsByTurns style whole n m load l opening p
 
 abbrev pub in_any_order : Bool → Load → Core → Progress → Type 0
 in_any_order whole l opening p = Unit {0}
 
-abbrev pub chosen_by : Option (List Turn) → ℕ → ℕ → Workload → Bool → Load → Core → Progress → Type 0
-chosen_by None n m load = in_any_order
-chosen_by (Some turns) n m load = by_turns n m load
+abbrev pub chosen_by : Option (List Turn) → Style → ℕ → ℕ → Workload → Bool → Load → Core → Progress → Type 0
+chosen_by None style n m load = in_any_order
+chosen_by (Some turns) style n m load = by_turns style n m load
 
 -- The run is what these events have made from the opening of this workload where the run began; a stream was stopped
 -- where the function tells.

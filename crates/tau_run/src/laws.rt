@@ -1,5 +1,5 @@
 //! What holds of every run, as functions that do nothing.
-ghost use Rattle.tau_run.specs.Laws.{TextsAreSound, RunIsThere, RunIsHistory, ContentsAreRecords, ImagesAreRecovered, AckedIsTaken, EndsWell, NothingIsLost, TurnsAreARun, LivesAreSound, LivesAreRecovered, RunsMayGoOn, LivesAreOne, LeftOutForGood, LivesAreMarked, FreshMarked, FreshBegins, CallsWait, NothingBegun, ToldIsWhole};
+ghost use Rattle.tau_run.specs.Laws.{TextsAreSound, RunIsThere, RunIsHistory, ContentsAreRecords, ImagesAreRecovered, AckedIsTaken, EndsWell, NothingIsLost, LivesAreSound, LivesAreRecovered, RunsMayGoOn, LivesAreOne, LeftOutForGood, LivesAreMarked, FreshMarked, FreshBegins, CallsWait, NothingBegun, ToldIsWhole};
 
 /// A workload that a text means can be run and logged: its calls and its steps name declared tables alone, and its catalogue can be read again.
 pub fn texts_are_sound()
@@ -54,11 +54,6 @@ pub fn ends_well()
 /// Where no call was given up and no stream was stopped, every call is acknowledged at the end.
 pub fn nothing_is_lost()
     ensures { NothingIsLost }
-{}
-
-/// A run by turns is a run of the machine, in which no call is given up.
-pub fn turns_are_a_run()
-    ensures { TurnsAreARun }
 {}
 
 /// A run of which the report was written is one of all its events, also if a disk failed.
