@@ -23,7 +23,8 @@ use Rattle.tau_core.specs.declared.event.Event.TheVariants as event
 use Rattle.tau_core.specs.declared.event.Outcome.{Outcome}
 use Rattle.tau_core.specs.declared.event.Outcome.TheVariants as outcome
 use Rattle.tau_core.specs.Steps.{Steps, Happened, Unmoved, IsFirstCovered}
-use Rattle.tau_run.specs.Turns.{Progress, none, next, cut}
+use Rattle.tau_run.specs.Turns.{Progress}
+use Rattle.tau_step.specs.TurnParts.{none, next, cut}
 use Rattle.tau_step.specs.Progressed.{progress, Comes, tells, clears}
 use Rattle.tau_step.specs.Telling.{waiting_of}
 use Rattle.tau_base.proofs.Lists.{some_at}

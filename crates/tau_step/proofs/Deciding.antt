@@ -14,7 +14,8 @@ use Rattle.tau_core.specs.declared.event.Phase.{Phase}
 use Rattle.tau_core.specs.declared.event.Phase.TheVariants.{Resting, Locking, Quitting, Ready, Placed, Freeing, Ended, Short, Stopped}
 use Rattle.tau_core.specs.Phases.{hand_phase, phase_by, running_phase, finished_phase, freeing_phase}
 use Rattle.tau_core.proofs.PhaseLaws.{fresh_phase}
-use Rattle.tau_run.specs.Turns.{IfSo, is_raised, has_work, is_empty}
+use Rattle.tau_run.specs.Turns.{IfSo, is_raised, is_empty}
+use Rattle.tau_step.specs.TurnParts.{has_work}
 
 -- the one or the other
 pub if_so : (b : Bool) (A B : Type 0) → b ≡ true → A → IfSo b A B

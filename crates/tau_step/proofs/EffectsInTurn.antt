@@ -21,7 +21,7 @@ use Rattle.tau_run.specs.Heard.{Heard}
 use Rattle.tau_step.specs.declared.clerk.Clerk.{Clerk}
 use Rattle.tau_step.specs.declared.flushes.Flushes.{Flushes}
 use Rattle.tau_step.specs.declared.run.Run.{Run}
-use Rattle.tau_step.specs.Along.{Quiet, AreKept, IsAlong, Went}
+use Rattle.tau_step.specs.Along.{Quiet, AreKept, IsAlong, Went, Silent}
 use Rattle.tau_step.specs.Device.{IsNoted, noting}
 use Rattle.tau_step.specs.RunEffects.{IsOn, Works, Manages, Moves, WentBy}
 use Rattle.tau_step.specs.Progressed.{progress, clerks}
@@ -32,7 +32,7 @@ use Rattle.tau_step.proofs.Counted.{counts_none}
 use Rattle.tau_step.proofs.Growing.{grows_none}
 use Rattle.tau_base.proofs.Logic.{some_is}
 use Rattle.tau_step.proofs.Joined.{comes_as, comes_on}
-use Rattle.tau_step.proofs.Silent.{Silent, clerked_silent}
+use Rattle.tau_step.proofs.Silent.{clerked_silent}
 use Rattle.tau_step.proofs.Turning.{clerked_grows, clerked_same}
 
 pub rose_more : (a b c : ℕ) → b ≤ c → Rose a b → Rose a c

@@ -33,6 +33,8 @@ use Rattle.tau_core.specs.View.{Hidden, core_of, setting_of, worker_in, committe
 use Rattle.tau_core.specs.Opens.{Opened, nothing}
 use Rattle.tau_core.specs.Stands.{Stands}
 use Rattle.tau_core.proofs.Promises.{acknowledged_law, committed_law}
+use Rattle.tau_occ.specs.declared.style.Style.{Style}
+use Rattle.tau_occ.specs.declared.style.Style.TheVariants.{Locking}
 use Rattle.tau_run.specs.CoreRun.{AreAcks, IsGiven}
 use Rattle.tau_run.specs.Fates.{IsNumberOf, fates_by}
 use Rattle.tau_run.specs.Gives.{CameTo, Concluded, CutOff, Gave}
@@ -41,9 +43,11 @@ use Rattle.tau_run.specs.Laws.{KeepCalls}
 use Rattle.tau_run.specs.Run.{pair_of}
 use Rattle.tau_run.specs.RunFacts.{by_turns, turns_of}
 use Rattle.tau_run.specs.StopsLeave.{HasFront, IsOver, NamesLowest, stops_in}
-use Rattle.tau_run.specs.Turns.{Progress, begun, IsPartOfRun, IsWholeRun}
+use Rattle.tau_run.specs.Schedule.{RunState, IsWhole, IsPart, state_of, still, todos_of}
+use Rattle.tau_run.specs.Turns.{Progress, begun}
 use Rattle.tau_run.specs.Writers.{AreNew, EachOf, IsBegun, Left}
-use Rattle.tau_run.proofs.Acks.{turns_law}
+use Rattle.tau_run.proofs.Steps.{did_steps, began_steps}
+use Rattle.tau_run.proofs.StepsLed.{turns_law}
 use Rattle.tau_run.proofs.Complete.{kept_there}
 use Rattle.tau_run.proofs.Fates.{at_member, number_is}
 use Rattle.tau_run.proofs.RunExists.{given_there}
@@ -61,8 +65,16 @@ use Rattle.tau_step.proofs.EffectsInTurn.{lowest_same}
 use Rattle.tau_step.proofs.RunEnds.{IsBeyond, AreShort, whole_over}
 use Rattle.tau_step.proofs.Short.{are_short}
 use Rattle.tau_step.proofs.Silent.{false_not}
-use Rattle.tau_step.proofs.Whole.{all_whole, all_part, whole_part}
 use Rattle.tau_machine.proofs.Lists.{member_of}
+
+-- ---- all that was to do
+
+module _ (l : Load) (turns : List Turn) (opening : Core) (P : Progress) where
+  pub all_whole : ran_all turns true l (begun opening) P → IsWhole (setting_of l) l.workers l.streams Locking turns opening (still P)
+  all_whole r = did_steps (setting_of l) l.workers l.streams Locking (todos_of (setting_of l) l.workers l.streams turns) (still (begun opening)) (still P) r
+
+  all_part : ran_all turns false l (begun opening) P → IsPart (setting_of l) l.workers l.streams Locking turns opening (still P)
+  all_part r = began_steps (setting_of l) l.workers l.streams Locking (todos_of (setting_of l) l.workers l.streams turns) (still (begun opening)) (still P) r
 
 -- ---- how it begins
 
@@ -103,10 +115,10 @@ beyond p K h g = record {
   pending = λ w le. ap pending_in (no_seat p K h g w le);
 }
 
-over_at : (p : Plain) (K : List (Act Txn)) (h : Hidden) → Stands p K h → (turns : List Turn) (opening : Core) (P : Progress) → P.state ≡ core_of p h → IsWholeRun (setting_of p.load) p.load.workers p.load.streams turns opening P → IsOver p.load.streams (core_of p h)
-over_at p K h g turns opening P e r =
+over_at : (p : Plain) (K : List (Act Txn)) (h : Hidden) → Stands p K h → (style : Style) (turns : List Turn) (opening : Core) (x : RunState) → state_of x ≡ core_of p h → IsWhole (setting_of p.load) p.load.workers p.load.streams style turns opening x → IsOver p.load.streams (core_of p h)
+over_at p K h g style turns opening x e r =
     subst (λ (s : Core). IsOver p.load.streams s) e
-    (whole_over (setting_of p.load) p.load.workers p.load.streams turns opening K P (subst (λ (s : Core). Invariant (setting_of p.load) K s) (sym e) g.inv) refl
+    (whole_over (setting_of p.load) p.load.workers p.load.streams style turns opening K x (subst (λ (s : Core). Invariant (setting_of p.load) K s) (sym e) g.inv) refl
     (λ k. mod-lt (k - 1) (let low = g.sound.workers_low in omega arith))
     (subst (λ (s : Core). IsBeyond (setting_of p.load) p.load.workers p.load.streams s) (sym e) (beyond p K h g))
     (subst (λ (s : Core). AreShort (setting_of p.load) p.load.workers p.load.streams s) (sym e) (are_short p K h g)) r)
@@ -161,7 +173,7 @@ module _ {D : Type 0} {G : Ghosts D} (seen_now : (d : D) → G.tells → G.may_l
   opening = core_of old.core nothing
 
   abbrev by : Bool → Load → Core → Progress → Type 0
-  by = counting ws ws' (by_turns l.streams l.workers load)
+  by = counting ws ws' (by_turns Locking l.streams l.workers load)
 
   first_held : Heard held old.clerk.acks old.clerk.sink_failed held
   first_held = subst (λ (a : List (ℕ × List ℕ)). Heard held a old.clerk.sink_failed held) (sym acks) (subst (λ (f : Bool). Heard held [] f held) (sym works) (sym (append-nil held)))
@@ -199,9 +211,9 @@ module _ {D : Type 0} {G : Ghosts D} (seen_now : (d : D) → G.tells → G.may_l
             let same = ap (λ (d : Load). d.streams) went.load in
             omega (arith, within, count, same)
 
-    module _ (either : IsWholeRun (setting_of l) l.workers l.streams turns opening P ⊎ IsPartOfRun (setting_of l) l.workers l.streams turns opening P) (part : IsPartOfRun (setting_of l) l.workers l.streams turns opening P) where
+    module _ (part : IsPart (setting_of l) l.workers l.streams Locking turns opening (still P)) where
       pub led : machine.Run (setting_of l) opening went.events went.order s × KeepCalls went.events × AreAcks l s told
-      led = turns_law (setting_of l) l.workers l.streams turns opening P o.opening either
+      led = turns_law (setting_of l) l.workers l.streams Locking turns opening (still P) o.opening part
 
       abbrev pub came : CameTo by bases l ws ws' told
       came = record {
@@ -211,7 +223,7 @@ module _ {D : Type 0} {G : Ghosts D} (seen_now : (d : D) → G.tells → G.may_l
         events = went.events;
         joined = went.order;
         led = led.0;
-        part = (part, λ e. false_not e);
+        part = (((λ w. []), part), λ e. false_not e);
         contents = given.0;
         streams = given.1;
         given = given.2;
@@ -235,11 +247,11 @@ module _ {D : Type 0} {G : Ghosts D} (seen_now : (d : D) → G.tells → G.may_l
     abbrev P_end : Progress
     P_end = progress new.core went.hidden went.events went.order new.clerk.acks
 
-    whole : IsWholeRun (setting_of l) l.workers l.streams turns opening P_end
+    whole : IsWhole (setting_of l) l.workers l.streams Locking turns opening (still P_end)
     whole = all_whole l turns opening P_end (from_begun true P_end went.moved.0)
 
-    part : IsPartOfRun (setting_of l) l.workers l.streams turns opening P_end
-    part = whole_part l turns opening P_end o.stands.sound.workers_low (from_begun true P_end went.moved.0)
+    part : IsPart (setting_of l) l.workers l.streams Locking turns opening (still P_end)
+    part = ([], whole)
 
     -- the calls of the disks
     counted : AreCounted ws ws' went.events
@@ -266,7 +278,7 @@ module _ {D : Type 0} {G : Ghosts D} (seen_now : (d : D) → G.tells → G.may_l
     told_numbers = λ k d lt.
         told_one new.core went.order went.hidden went.stands new.clerk.acks
         (subst (λ (d : Load). (w : ℕ) → filter (λ (a : ℕ × List ℕ). (setting_of d).worker_of a.0 == w) new.clerk.acks ≡ map pair_of ((core_of new.core went.hidden).acked w)) (sym went.load)
-        (turns_law (setting_of l) l.workers l.streams turns opening P_end o.opening (inl whole)).2)
+        (turns_law (setting_of l) l.workers l.streams Locking turns opening (still P_end) o.opening part).2)
         (slice_index_or new.clerk.acks k d) (at_member new.clerk.acks k d lt)
 
     concluded : (end : RunEnd) → end.report.acks ≡ new.clerk.acks →
@@ -276,11 +288,11 @@ module _ {D : Type 0} {G : Ghosts D} (seen_now : (d : D) → G.tells → G.may_l
         end.disk ≡ new.failed → end.sink_failed ≡ new.clerk.sink_failed → Concluded by bases l ws ws' hears held held' (Rose faults faults') end
     concluded end told fates order tables disk sink = record {
       acks = new.clerk.acks;
-      came = came noted true new.clerk.acks went (inl whole) part;
-      whole = (whole, λ e. (counted, halved));
+      came = came noted true new.clerk.acks went part;
+      whole = (((λ w. []), whole), λ e. (counted, halved));
       over = subst (λ (d : Load). IsOver d.streams (core_of new.core went.hidden)) went.load
-          (over_at new.core went.order went.hidden went.stands turns opening P_end refl (subst (λ (d : Load). IsWholeRun (setting_of d) d.workers d.streams turns opening P_end) (sym went.load) whole));
-      kept = kept noted true new.clerk.acks went (inl whole) part;
+          (over_at new.core went.order went.hidden went.stands Locking turns opening (still P_end) refl (subst (λ (d : Load). IsWhole (setting_of d) d.workers d.streams Locking turns opening (still P_end)) (sym went.load) whole));
+      kept = kept noted true new.clerk.acks went part;
       heard = λ q. subst (λ (f : Bool). Heard held new.clerk.acks f held') (sym sink) (x.heard refl q held first_held);
       sink = λ e. rose_now x.rose (sym sink ∙ e);
       disk = subst (λ (f : Option ℕ). NamesLowest l.streams (stops_in (core_of new.core went.hidden)) f) (sym disk)
@@ -296,7 +308,7 @@ module _ {D : Type 0} {G : Ghosts D} (seen_now : (d : D) → G.tells → G.may_l
     not_told : CutOff by bases l ws ws' hears held held' (Rose faults faults')
     not_told = record {
       acks = new.clerk.acks;
-      came = came noted true new.clerk.acks went (inl whole) part;
+      came = came noted true new.clerk.acks went part;
       count = length new.clerk.acks;
       sink_failed = new.clerk.sink_failed;
       heard = λ q. subst (λ (a : List (ℕ × List ℕ)). Heard held a new.clerk.sink_failed held') (sym (take-length new.clerk.acks)) (x.heard refl q held first_held);
@@ -320,10 +332,10 @@ module _ {D : Type 0} {G : Ghosts D} (seen_now : (d : D) → G.tells → G.may_l
   cut_off x =
       let c = x.went bases [] nothing [] o.stands (begun_kept bases ws old.core o b) in
       let P_cut : Progress = progress new.core c.went.hidden c.went.events c.went.order c.told_now in
-      let part : IsPartOfRun (setting_of l) l.workers l.streams turns opening P_cut = all_part l turns opening P_cut (from_begun false P_cut c.went.moved) in
+      let part : IsPart (setting_of l) l.workers l.streams Locking turns opening (still P_cut) = all_part l turns opening P_cut (from_begun false P_cut c.went.moved) in
       record {
         acks = c.told_now;
-        came = came (ran_all turns) false c.told_now c.went (inr part) part;
+        came = came (ran_all turns) false c.told_now c.went part;
         count = c.count;
         sink_failed = new.clerk.sink_failed;
         heard = λ q. c.heard q held first_held;

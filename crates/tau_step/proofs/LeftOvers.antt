@@ -21,7 +21,9 @@ use Rattle.tau_core.specs.declared.event.Phase.TheVariants.{Resting, Quitting}
 use Rattle.tau_core.specs.Opens.{nothing}
 use Rattle.tau_core.specs.Stands.{Stands, Stood}
 use Rattle.tau_core.specs.Steps.{Happened, Unmoved}
-use Rattle.tau_run.specs.Turns.{Progress, Goes, has_work, is_busy, is_raised, is_empty, any_left, LeftOver}
+use Rattle.tau_run.specs.Turns.{Progress, Goes, is_raised, is_empty, any_left}
+use Rattle.tau_step.specs.TurnParts.{has_work, is_busy}
+use Rattle.tau_run.specs.Schedule.{Alone, LeftOver}
 use Rattle.tau_run.specs.StopsLeave.{NamesLowest, stops_in}
 use Rattle.tau_step.specs.declared.run.Run.{Run}
 use Rattle.tau_step.specs.Acting.{IsSettling, Settles}
@@ -29,55 +31,54 @@ use Rattle.tau_step.specs.Along.{Quiet}
 use Rattle.tau_step.specs.RunEffects.{Works, calls_over, rests_in}
 use Rattle.tau_step.specs.Progressed.{progress}
 use Rattle.tau_step.specs.Remains.{sum_below}
-use Rattle.tau_step.specs.Rounding.{worked_by, acted_alone, alone_on, ran_left_over, left_over_on, resumed_by}
+use Rattle.tau_step.specs.Rounding.{ActedAlone, RanLeftOver, worked_by, acted_alone, ran_left_over, resumed_by}
 use Rattle.tau_step.proofs.Fitting.{lowest_raised}
 use Rattle.tau_step.proofs.EffectsInTurn.{works_on, works_none}
-use Rattle.tau_step.proofs.Resting.{any_none, rest_hand, rest_waiting, busy_none, none_busy, resumed_later, resumed_quiet, alone_none, alone_more, alone_cut, left_more, left_cut, left_none, left_raised}
-use Rattle.tau_step.proofs.Rounding.{quiet_none}
+use Rattle.tau_step.proofs.Resting.{any_none, rest_hand, rest_waiting, busy_none, none_busy, resumed_later, resumed_quiet, alone_begun, alone_none, alone_more, alone_cut, alone_on, left_begun, left_more, left_over_on, left_none, left_raised}
 use Rattle.tau_step.proofs.Totals.{sum_same, sum_less}
 use Rattle.tau_step.proofs.Working.{goes, same_progress}
 
 -- ---- alone
 
 abbrev pub alone_so : ℕ → Bool → Load → Progress → Progress → Type 0
-alone_so w whole l P P' = alone_on w l P P'
+alone_so w whole l P P' = ActedAlone w (Alone w ∷ []) whole l P P'
 
 pub alone_quiet : (w : ℕ) (whole : Bool) (l : Load) (P P' : Progress) → alone_so w whole l P P' → Quiet P.state P'.state
-alone_quiet w whole l P P' h = (h false P' (alone_cut (setting_of l) l.workers l.streams w P' P' refl)).quiet
+alone_quiet w whole l P P' h = h.quiet
 
 pub acts_none : (w : ℕ) (run : Run) → Stood run.core → Works (alone_so w) true run run
-acts_none w run stood = works_none (alone_so w) run stood (λ P whole R r. r)
+acts_none w run stood = works_none (alone_so w) run stood (λ P. alone_begun run.core.load w P)
 
 module _ (w : ℕ) (old mid new : Run) (x : Works (alone_so w) true old mid) where
   pub acts_more : Works (worked_by w (Ok true)) true mid new → Works (alone_so w) true old new
-  acts_more y = works_on (alone_so w) (worked_by w (Ok true)) (alone_so w) true old mid new (λ l P Q P' p q whole R r. p whole R (alone_more (setting_of l) l.workers l.streams w Q P' (sym q.0) q.1 whole R r)) x y
+  acts_more y = works_on (alone_so w) (worked_by w (Ok true)) (alone_so w) true old mid new (λ l P Q P' p q. alone_on l w (Alone w ∷ []) true P Q P' p (alone_more l w Q P' (sym q.0) q.1)) x y
 
   pub acts_end : Works (worked_by w (Ok false)) true mid new → Works (acted_alone w) true old new
-  acts_end y = works_on (alone_so w) (worked_by w (Ok false)) (acted_alone w) true old mid new (λ l P Q P' p q. p true P' (alone_none (setting_of l) l.workers l.streams w Q P' (sym q.0) q.1)) x y
+  acts_end y = works_on (alone_so w) (worked_by w (Ok false)) (acted_alone w) true old mid new (λ l P Q P' p q. alone_on l w [] true P Q P' p (alone_none l w Q P' (sym q.0) q.1)) x y
 
   pub acts_cut : (e : NoMemory) → Works (worked_by w (Err e)) false mid new → Works (acted_alone w) false old new
-  acts_cut e y = works_on (alone_so w) (worked_by w (Err e)) (acted_alone w) false old mid new (λ l P Q P' p q. p false P' (alone_cut (setting_of l) l.workers l.streams w Q P' q)) x y
+  acts_cut e y = works_on (alone_so w) (worked_by w (Err e)) (acted_alone w) false old mid new (λ l P Q P' p q. alone_on l w [] false P Q P' p (alone_cut l w Q P' q)) x y
 
 -- ---- calls left over, one after another
 
 abbrev pub left_so : Bool → Load → Progress → Progress → Type 0
-left_so whole l P P' = left_over_on l P P'
+left_so whole l P P' = RanLeftOver (LeftOver ∷ []) whole l P P'
 
 pub left_so_quiet : (whole : Bool) (l : Load) (P P' : Progress) → left_so whole l P P' → Quiet P.state P'.state
-left_so_quiet whole l P P' h = (h false P' (record { turns = LeftOver.stop; quiet = quiet_none P'.state })).quiet
+left_so_quiet whole l P P' h = h.quiet
 
 pub calls_none : (run : Run) → Stood run.core → Works left_so true run run
-calls_none run stood = works_none left_so run stood (λ P whole R r. r)
+calls_none run stood = works_none left_so run stood (λ P. left_begun run.core.load P)
 
 module _ (old mid new : Run) (x : Works left_so true old mid) where
   pub calls_more : Works (resumed_by (Ok true)) true mid new → Works left_so true old new
-  calls_more y = works_on left_so (resumed_by (Ok true)) left_so true old mid new (λ l P Q P' p q whole R r. p whole R (q whole R r)) x y
+  calls_more y = works_on left_so (resumed_by (Ok true)) left_so true old mid new (λ l P Q P' p q. left_over_on l (LeftOver ∷ []) true P Q P' p q) x y
 
   pub calls_end : Works (resumed_by (Ok false)) true mid new → Works ran_left_over true old new
-  calls_end y = works_on left_so (resumed_by (Ok false)) ran_left_over true old mid new (λ l P Q P' p q. p true P' q) x y
+  calls_end y = works_on left_so (resumed_by (Ok false)) ran_left_over true old mid new (λ l P Q P' p q. left_over_on l [] true P Q P' p q) x y
 
   pub calls_cut : (e : NoMemory) → Works (resumed_by (Err e)) false mid new → Works ran_left_over false old new
-  calls_cut e y = works_on left_so (resumed_by (Err e)) ran_left_over false old mid new (λ l P Q P' p q. p false P' q) x y
+  calls_cut e y = works_on left_so (resumed_by (Err e)) ran_left_over false old mid new (λ l P Q P' p q. left_over_on l [] false P Q P' p q) x y
 
 -- after a stop none runs
 pub none_run : (run : Run) → Stood run.core → NamesLowest run.core.load.streams (stops_in (core_of run.core nothing)) run.failed → is_some run.failed ≡ true → Works ran_left_over true run run
@@ -89,7 +90,7 @@ none_run run stood lowest some = record {
     stands = g;
     load = refl;
     taken = refl;
-    moved = left_raised (setting_of run.core.load) run.core.load.workers run.core.load.streams (progress run.core h es K told) (sym (lowest_raised run.core nothing h run.failed lowest) ∙ some);
+    moved = left_raised run.core.load (progress run.core h es K told) (sym (lowest_raised run.core nothing h run.failed lowest) ∙ some);
   };
   stood = stood;
   load = refl;
@@ -271,10 +272,10 @@ module _ (w : ℕ) (old mid : Run) (stood : Stood old.core) (steps : (K : List (
   -- and runs alone
   module _ (new : Run) (x : Works (resume_so w) true old mid) where
     pub resumed_on : Works (acted_alone w) true mid new → Works (resumed_by (Ok true)) true old new
-    resumed_on y = works_on (resume_so w) (acted_alone w) (resumed_by (Ok true)) true old mid new (λ l P Q P' p q whole X rest. left_more (setting_of l) l.workers l.streams w p.0 P Q P' p.1 p.2 q whole X rest) x y
+    resumed_on y = works_on (resume_so w) (acted_alone w) (resumed_by (Ok true)) true old mid new (λ l P Q P' p q. left_more l w p.0 true P Q P' p.1 p.2 q) x y
 
     pub resumed_cut : (e : NoMemory) → Works (acted_alone w) false mid new → Works (resumed_by (Err e)) false old new
-    resumed_cut e y = works_on (resume_so w) (acted_alone w) (resumed_by (Err e)) false old mid new (λ l P Q P' p q. left_cut (setting_of l) l.workers l.streams w p.0 P Q P' p.1 p.2 q) x y
+    resumed_cut e y = works_on (resume_so w) (acted_alone w) (resumed_by (Err e)) false old mid new (λ l P Q P' p q. (let r = left_more l w p.0 false P Q P' p.1 p.2 q in record { turns = r.turns; quiet = r.quiet; silent = r.silent })) x y
 
     pub resumed_fewer : Works (acted_alone w) true mid new → Settles w mid.core new.core → calls_over new.core < calls_over old.core
     resumed_fewer y settles =
@@ -302,7 +303,7 @@ module _ (w : ℕ) (old mid : Run) (stood : Stood old.core) (steps : (K : List (
         let acted : acted_alone w true l Q R = subst (λ (k : Load). acted_alone w true k Q R) a.load b.moved in
         let none : is_busy (setting_of l) l.workers l.streams R.state ≡ false =
         none_busy (setting_of l) l.workers l.streams R.state (λ u lt. elim (cases_eq u w) [
-          | inl e ↦ subst (λ (v : ℕ). has_work (setting_of l) l.workers l.streams R.state v ≡ false) (sym e) (acted.rests refl)
+          | inl e ↦ subst (λ (v : ℕ). has_work (setting_of l) l.workers l.streams R.state v ≡ false) (sym e) (acted.rests refl refl)
           | inr ne ↦ acted.others u ne ∙ resumed_later (setting_of l) l.workers l.streams w u ne P Q a.moved.2 ∙ busy_none (setting_of l) l.workers l.streams P.state rests u lt
         ]) in
         subst (λ (k : Load). is_busy (setting_of k) k.workers k.streams (core_of new.core nothing) ≡ false) (sym (y.load ∙ x.load)) none
@@ -346,7 +347,7 @@ module _ (old new : Run) (stood : Stood old.core) (steps : (K : List (Act Txn)) 
           stands = u.stands;
           load = u.load;
           taken = u.taken;
-          moved = left_none (setting_of old.core.load) old.core.load.workers old.core.load.streams (progress old.core h es K told) (progress new.core u.hidden es K told) (nothing_left K h g) (same_progress old.core new.core K h es told u);
+          moved = left_none old.core.load (progress old.core h es K told) (progress new.core u.hidden es K told) (nothing_left K h g) (same_progress old.core new.core K h es told u);
         });
     stood = (let (K, h, g) = stood in let u = (steps K h g).0 in (K, u.hidden, u.stands));
     load = (let (K, h, g) = stood in (steps K h g).0.load);

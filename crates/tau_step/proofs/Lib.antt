@@ -6,6 +6,8 @@ mod Lines
 mod Clearing
 mod Joined
 mod OneByOne
+mod ToSteps
+mod Scheduled
 mod AnchorsDropped
 pub mod Bodies
 mod Images
@@ -27,6 +29,7 @@ mod EffectsInTurn
 mod Totals
 mod Resting
 mod Idling
+mod Late
 mod RunEnds
 mod Managers
 mod Fitting
@@ -38,10 +41,11 @@ mod Rounds
 mod Draining
 mod Staged
 mod LeftOvers
-mod Whole
 mod Short
 mod Ending
 pub mod Begun
 mod Silent
 mod Noting
 mod Ordered
+mod PeekTurns
+mod OptimistTurns

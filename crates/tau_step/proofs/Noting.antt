@@ -4,10 +4,12 @@ use Rattle.std.specs.Prelude.{Some, None, slice_index}
 use Rattle.std.proofs.lemmas.Bool.{cases_Bool, eq-eqb}
 use Rattle.tau_machine.specs.State.{Setting, Core}
 use Rattle.tau_machine.specs.Events.{Gather, Persist, Stop}
-use Rattle.tau_run.specs.Turns.{Progress, Managed}
+use Rattle.tau_run.specs.Turns.{Progress}
+use Rattle.tau_step.specs.TurnParts.{Managed}
 use Rattle.tau_step.specs.Counts.{flushed_in}
+use Rattle.tau_step.specs.Along.{Silent}
 use Rattle.tau_step.proofs.Idling.{gathered_stop, gathered_plv, managed_goes, managed_stays, if_then, if_else, none_some}
-use Rattle.tau_step.proofs.Silent.{Silent, goes_silent, goes_flushes}
+use Rattle.tau_step.proofs.Silent.{goes_silent, goes_flushes}
 
 differ : (a b : ℕ) → (a == b) ≡ false → a ≡ b → ⊥
 differ a b e f = let bad : true ≡ false = sym (eq-eqb a b f) ∙ e in cc

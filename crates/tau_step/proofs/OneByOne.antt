@@ -3,12 +3,10 @@ use Rattle.std.proofs.Common.{ℕ, zero, suc, ◌<◌, ◌≡◌, inl, inr, Bool
 use Rattle.std.proofs.lemmas.Bool.{cases_eq, cases_lt}
 use Rattle.tau_machine.specs.State.{Setting}
 use Rattle.tau_run.specs.Run.{below}
-use Rattle.tau_run.specs.Turns.{Progress, OneByOne}
+use Rattle.tau_run.specs.Turns.{Progress}
+use Rattle.tau_step.specs.TurnParts.{OneByOne}
 
 module _ (set : Setting) (m n : ℕ) {A : Type 0} (step : Bool → A → Progress → Progress → Type 0) where
-  pub one_none : (P : Progress) → OneByOne set m n step true [] P P
-  one_none P = refl
-
   -- one more after them
   pub one_more : (xs : List A) (x : A) (P Q P' : Progress) → OneByOne set m n step true xs P Q → step true x Q P' → OneByOne set m n step true (xs ++ x ∷ []) P P'
   one_more [] x P Q P' e s = (P', subst (λ (q : Progress). step true x q P') e s, refl)
@@ -18,16 +16,6 @@ module _ (set : Setting) (m n : ℕ) {A : Type 0} (step : Bool → A → Progres
   pub one_cut : (xs : List A) (x : A) (ys : List A) (P Q P' : Progress) → OneByOne set m n step true xs P Q → step false x Q P' → OneByOne set m n step false (xs ++ x ∷ ys) P P'
   one_cut [] x ys P Q P' e s = inl (subst (λ (q : Progress). step false x q P') e s)
   one_cut (y ∷ zs) x ys P Q P' (q, first, rest) s = inr (q, first, one_cut zs x ys q Q P' rest s)
-
-  -- some after others
-  pub one_both : (xs ys : List A) (P Q P' : Progress) → OneByOne set m n step true xs P Q → OneByOne set m n step true ys Q P' → OneByOne set m n step true (xs ++ ys) P P'
-  one_both [] ys P Q P' e s = subst (λ (q : Progress). OneByOne set m n step true ys q P') e s
-  one_both (x ∷ xs) ys P Q P' (q, first, rest) s = (q, first, one_both xs ys q Q P' rest s)
-
-  -- of some after others the last are left undone in part
-  pub one_cut_behind : (xs ys : List A) (P Q P' : Progress) → OneByOne set m n step true xs P Q → OneByOne set m n step false ys Q P' → OneByOne set m n step false (xs ++ ys) P P'
-  one_cut_behind [] ys P Q P' e s = subst (λ (q : Progress). OneByOne set m n step false ys q P') e s
-  one_cut_behind (x ∷ xs) ys P Q P' (q, first, rest) s = inr (q, first, one_cut_behind xs ys q Q P' rest s)
 
 -- the numbers below one are those below another, it, and others
 pub below_split : (i m : ℕ) → i < m → (others : List ℕ) × (below m ≡ below i ++ i ∷ others)

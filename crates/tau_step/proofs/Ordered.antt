@@ -1,5 +1,5 @@
 -- The flushes of a whole run in which no stream stops.
-use Rattle.std.proofs.Common.{ℕ, ◌<◌, ◌≤◌, ◌≡◌, inl, true, List, [], length, refl, sym, subst, ◌∙◌, arith, Option}
+use Rattle.std.proofs.Common.{ℕ, ◌<◌, ◌≤◌, ◌≡◌, true, List, [], length, refl, sym, subst, ◌∙◌, arith, Option}
 use Rattle.std.specs.Prelude.{None}
 use Rattle.std.proofs.lemmas.List.{length-replicate}
 use Rattle.tau_base.specs.declared.format.Format.{Format}
@@ -22,8 +22,10 @@ use Rattle.tau_run.specs.CoreRun.{IsLoadOn, IsFirstState, AreAcks, IsRunOf}
 use Rattle.tau_run.specs.Laws.{KeepCalls}
 use Rattle.tau_run.specs.Run as told
 use Rattle.tau_run.specs.RunFacts.{turns_of}
-use Rattle.tau_run.specs.Turns.{Progress, IsWholeRun, begun}
-use Rattle.tau_run.proofs.Acks.{turns_law}
+use Rattle.tau_occ.specs.declared.style.Style.TheVariants.{Locking}
+use Rattle.tau_run.specs.Schedule.{IsWhole, still}
+use Rattle.tau_run.specs.Turns.{Progress, begun}
+use Rattle.tau_run.proofs.StepsLed.{turns_law}
 use Rattle.tau_run.proofs.Results.{run_law}
 use Rattle.tau_run.proofs.Start.{started}
 use Rattle.tau_run.specs.StopsLeave.{NamesLowest, stops_in}
@@ -35,9 +37,8 @@ use Rattle.tau_step.specs.Device.{IsFlushOrder, IsOfRun, noting}
 use Rattle.tau_step.specs.RunEffects.{IsOn, Moves}
 use Rattle.tau_step.specs.Progressed.{progress}
 use Rattle.tau_step.specs.Rounding.{ran_all}
-use Rattle.tau_step.proofs.Ending.{begun_along, begun_kept}
+use Rattle.tau_step.proofs.Ending.{all_whole, begun_along, begun_kept}
 use Rattle.tau_step.proofs.EffectsInTurn.{lowest_same}
-use Rattle.tau_step.proofs.Whole.{all_whole}
 
 -- every format has room for the streams of the first
 pub low_streams : (f : Format) (n : ℕ) → n ≤ most_streams One → n ≤ most_streams f
@@ -101,18 +102,18 @@ module _ {D : Type 0} {G : Ghosts D} (m : ℕ) (mode : LogMode) (load : Workload
   from_begun : ran_all (turns_of load) true old.core.load (begun (core_of old.core nothing)) P
   from_begun = subst (λ (a : List (ℕ × List ℕ)). ran_all (turns_of load) true old.core.load (record { state = core_of old.core nothing; events = []; joined = []; told = a }) P) acks went.moved.0
 
-  whole : IsWholeRun (setting_of l) m n (turns_of load) (core_of old.core nothing) P
+  whole : IsWhole (setting_of l) m n Locking (turns_of load) (core_of old.core nothing) (still P)
   whole =
-      subst (λ (d : Load). IsWholeRun (setting_of d) m n (turns_of load) (core_of old.core nothing) P) (sym went.load)
-      (subst (λ (k : ℕ). IsWholeRun (setting_of old.core.load) m k (turns_of load) (core_of old.core nothing) P) first_load.streams
-      (subst (λ (k : ℕ). IsWholeRun (setting_of old.core.load) k old.core.load.streams (turns_of load) (core_of old.core nothing) P) first_load.workers
+      subst (λ (d : Load). IsWhole (setting_of d) m n Locking (turns_of load) (core_of old.core nothing) (still P)) (sym went.load)
+      (subst (λ (k : ℕ). IsWhole (setting_of old.core.load) m k Locking (turns_of load) (core_of old.core nothing) (still P)) first_load.streams
+      (subst (λ (k : ℕ). IsWhole (setting_of old.core.load) k old.core.load.streams Locking (turns_of load) (core_of old.core nothing) (still P)) first_load.workers
       (all_whole old.core.load (turns_of load) (core_of old.core nothing) P from_begun)))
 
   opening_is : machine.IsOpening (setting_of l) (core_of old.core nothing)
   opening_is = subst (λ (d : Load). machine.IsOpening (setting_of d) (core_of old.core nothing)) (sym went.load) opened.opening
 
   led : machine.Run (setting_of l) (core_of old.core nothing) went.events went.order s × KeepCalls went.events × AreAcks l s new.clerk.acks
-  led = turns_law (setting_of l) m n (turns_of load) (core_of old.core nothing) P opening_is (inl whole)
+  led = turns_law (setting_of l) m n Locking (turns_of load) (core_of old.core nothing) (still P) opening_is ([], whole)
 
   there : (run : told.Run) × IsRunOf n l went.order s load run × (run.acks ≡ new.clerk.acks) × (run.start ≡ fresh_start n)
   there = run_law n m mode load new.core went.order went.hidden went.stands (fresh_start n) is_load (length-replicate n []) new.clerk.acks led.2
@@ -136,7 +137,7 @@ module _ {D : Type 0} {G : Ghosts D} (m : ℕ) (mode : LogMode) (load : Workload
         first = subst (λ (d : Load). IsFirstState d (core_of old.core nothing)) (sym went.load) (started old.core.load old.core opened);
         progress = P;
         led = led.0;
-        chosen = whole;
+        chosen = ((λ w. []), whole);
         is = there.1;
         told = there.2;
         stopped = unstopped;

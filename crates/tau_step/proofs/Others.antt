@@ -10,7 +10,8 @@ use Rattle.tau_machine.specs.State.{Setting, Core, Stream}
 use Rattle.tau_machine.specs.Events.{Event, Lock, Busy, Quit, Commit, Post, Free, FirstFree, Done, DoneReading, Drop, Gather, PlaceAnchor, Persist, Ack, Stop, Resume, Leads, Gathered, stop, record_first, anchor_first}
 use Rattle.tau_machine.proofs.At.{at_other}
 use Rattle.tau_run.specs.Run.{below}
-use Rattle.tau_run.specs.Turns.{Progress, IsOwn, OneByOne, DropOf, WorkedPart, ManagedPart, AnchoredPart, Clerked, is_raised, has_work, is_empty}
+use Rattle.tau_run.specs.Turns.{Progress, IsOwn, is_raised, is_empty}
+use Rattle.tau_step.specs.TurnParts.{OneByOne, DropOf, WorkedPart, ManagedPart, AnchoredPart, Clerked, has_work}
 use Rattle.tau_step.proofs.Turning.{worked_part_keep, managed_keep, anchored_keep, clerked_keep, removed_keep}
 
 -- an event of a worker leaves the streams

@@ -8,12 +8,22 @@ use Rattle.tau_machine.specs.State.{Setting, Core}
 use Rattle.tau_machine.specs.Events.{Resume}
 use Rattle.tau_machine.proofs.At.{at_other}
 use Rattle.tau_run.specs.Run.{below}
-use Rattle.tau_run.specs.Turns.{Progress, Stays, Goes, Worked, Alone, LeftOver, has_work, is_busy, is_raised, is_empty, any_left}
-use Rattle.tau_step.specs.Along.{Quiet}
-use Rattle.tau_step.specs.Rounding.{ActedAlone, RanLeftOver}
+use Rattle.tau_occ.specs.declared.style.Style.TheVariants.{Locking}
+use Rattle.tau_core.specs.declared.state.Load.{Load}
+use Rattle.tau_core.specs.View.{setting_of}
+use Rattle.tau_run.specs.Turns.{Progress, Stays, Goes, is_raised, is_empty, any_left}
+use Rattle.tau_step.specs.TurnParts.{Worked, has_work, is_busy}
+use Rattle.tau_run.specs.Schedule as todo
+use Rattle.tau_run.specs.Schedule.{Todo, Did, still, on}
+use Rattle.tau_run.proofs.Steps.{began_none}
+use Rattle.tau_step.proofs.ToSteps.{alone_over, acts_alone, left_over_over, resumes}
+use Rattle.tau_step.specs.Along.{Quiet, flushed_in}
+use Rattle.tau_step.specs.Rounding.{leaves, ran, ActedAlone, RanLeftOver}
+use Rattle.tau_step.proofs.Scheduled.{left_all, left_on, left_after}
+use Rattle.tau_step.proofs.Silent.{worked_silent, goes_silent}
 use Rattle.tau_step.proofs.Growing.{grows, spared}
 use Rattle.tau_step.proofs.Others.{worked_others, raised_same, work_same}
-use Rattle.tau_step.proofs.Rounding.{quiet_none, quiet_on, quiet_same, worked_still, worked_quiet, worked_raised, worked_later, none_below, any_more}
+use Rattle.tau_step.proofs.Rounding.{quiet_on, quiet_same, worked_still, worked_quiet, worked_later, none_below, any_more}
 
 -- a worker that has nothing to do has no call in hand; and none that waits, where no disk has failed
 rests_hand : (a : Bool) (o : Option Hand) (r k : Bool) → a ≡ true → (a && (is_some o || (not r && not k))) ≡ false → o ≡ None
@@ -45,41 +55,15 @@ module _ (set : Setting) (m n : ℕ) where
   pub none_busy : (s : Core) → ((w : ℕ) → w < m → has_work set m n s w ≡ false) → is_busy set m n s ≡ false
   none_busy s h = any_none (has_work set m n s) m h
 
-  -- ---- a worker alone
+  pub resumed_quiet : (w : ℕ) (P Q : Progress) → Goes set m n (Resume w) P Q → Quiet P.state Q.state
+  resumed_quiet w P Q g = record { grown = grows set (Resume w) P.state Q.state g.new g.leads; same = λ i. spared set i (Resume w) P.state Q.state g.new tt g.leads }
 
-  pub alone_none : (w : ℕ) (P P' : Progress) → has_work set m n P.state w ≡ false → Worked set m n w P P' → ActedAlone set m n w true P P'
-  alone_none w P P' none h =
-      let same = worked_still set m n w P P' none h in
-      record {
-        turns = subst (λ (X : Progress). Alone set m n w true P X) (sym same) (Alone.over none);
-        rests = λ e. ap (λ (X : Progress). has_work set m n X.state w) same ∙ none;
-        others = λ u ne. ap (λ (X : Progress). has_work set m n X.state u) same;
-        raised = ap (λ (X : Progress). is_raised set m n X.state) same;
-        apart = λ u ne. ap (λ (X : Progress). X.state.workers u) same;
-        quiet = quiet_same P P' same;
-      }
-
-  pub alone_cut : (w : ℕ) (P P' : Progress) → Stays P P' → ActedAlone set m n w false P P'
-  alone_cut w P P' same = record {
-    turns = subst (λ (X : Progress). Alone set m n w false P X) (sym same) Alone.cut;
-    rests = λ e. absurd (let bad : false ≡ true = e in cc);
-    others = λ u ne. ap (λ (X : Progress). has_work set m n X.state u) same;
-    raised = ap (λ (X : Progress). is_raised set m n X.state) same;
-    apart = λ u ne. ap (λ (X : Progress). X.state.workers u) same;
-    quiet = quiet_same P P' same;
-  }
-
-  pub alone_more : (w : ℕ) (P Q : Progress) → has_work set m n P.state w ≡ true → Worked set m n w P Q → (whole : Bool) (R : Progress) → ActedAlone set m n w whole Q R → ActedAlone set m n w whole P R
-  alone_more w P Q works h whole R a = record {
-    turns = Alone.again works h a.turns;
-    rests = a.rests;
-    others = λ u ne. a.others u ne ∙ worked_later set m n w u ne P Q h;
-    raised = a.raised ∙ worked_raised set m n w P Q h;
-    apart = λ u ne. a.apart u ne ∙ worked_others set m n P Q w u ne true h;
-    quiet = quiet_on P.state Q.state R.state (worked_quiet set m n w P Q h) a.quiet;
-  }
-
-  -- ---- calls left over
+  -- the others rest still
+  pub resumed_later : (w u : ℕ) → (u ≡ w → ⊥) → (P Q : Progress) → Goes set m n (Resume w) P Q → has_work set m n Q.state u ≡ has_work set m n P.state u
+  resumed_later w u ne P Q g =
+      let q = g.leads.0 in
+      work_same set m n P.state Q.state u (ap (λ (c : Core). c.workers u) q.after ∙ at_other w _ P.state.workers u ne)
+      (raised_same set m n P.state Q.state (ap (λ (c : Core). c.streams) q.after))
 
   over_first : (a b : Bool) → a ≡ true → (not a && b) ≡ false
   over_first true b e = refl
@@ -89,33 +73,88 @@ module _ (set : Setting) (m n : ℕ) where
   over_second true b e = refl
   over_second false b e = e
 
+  -- no call that was left over runs: after a stop, or since there is none
+  left_over_none : (P : Progress) → (not (is_raised set m n P.state) && any_left set m n P.state) ≡ false → Did set m n Locking (todo.LeftOver ∷ []) (still P) (still P)
+  left_over_none P e = left_over_over set m n P e
+
+  pub left_over_raised : (P : Progress) → is_raised set m n P.state ≡ true → Did set m n Locking (todo.LeftOver ∷ []) (still P) (still P)
+  left_over_raised P e = left_over_none P (over_first (is_raised set m n P.state) (any_left set m n P.state) e)
+
+  pub left_over_empty : (P : Progress) → any_left set m n P.state ≡ false → Did set m n Locking (todo.LeftOver ∷ []) (still P) (still P)
+  left_over_empty P e = left_over_none P (over_second (is_raised set m n P.state) (any_left set m n P.state) e)
+
+module _ (l : Load) where
+  -- ---- a worker alone, which has nothing to do, or to which nothing happened
+
+  alone_same : (w : ℕ) (left : List Todo) (whole : Bool) (P P' : Progress) → P' ≡ P → (left ≡ [] → whole ≡ true → has_work (setting_of l) l.workers l.streams P.state w ≡ false) → leaves (todo.Alone w ∷ []) left whole l P P' → ActedAlone w left whole l P P'
+  alone_same w left whole P P' same rests turns = record {
+    turns = turns;
+    rests = λ e f. ap (λ (X : Progress). has_work (setting_of l) l.workers l.streams X.state w) same ∙ rests e f;
+    others = λ u ne. ap (λ (X : Progress). has_work (setting_of l) l.workers l.streams X.state u) same;
+    apart = λ u ne. ap (λ (X : Progress). X.state.workers u) same;
+    quiet = quiet_same P P' same;
+    silent = ap (λ (X : Progress). flushed_in X.events) same;
+  }
+
+  pub alone_begun : (w : ℕ) (P : Progress) → ActedAlone w (todo.Alone w ∷ []) true l P P
+  alone_begun w P = alone_same w (todo.Alone w ∷ []) true P P refl (λ e. absurd (let bad : todo.Alone w ∷ [] ≡ [] = e in cc)) (left_all (todo.Alone w ∷ []) l P)
+
+  pub alone_none : (w : ℕ) (P P' : Progress) → has_work (setting_of l) l.workers l.streams P.state w ≡ false → Worked (setting_of l) l.workers l.streams w P P' → ActedAlone w [] true l P P'
+  alone_none w P P' none h =
+      let same = worked_still (setting_of l) l.workers l.streams w P P' none h in
+      alone_same w [] true P P' same (λ e f. none) (subst (λ (X : Progress). ran (todo.Alone w ∷ []) true l P X) (sym same) (alone_over (setting_of l) l.workers l.streams w P none))
+
+  pub alone_cut : (w : ℕ) (P P' : Progress) → Stays P P' → ActedAlone w [] false l P P'
+  alone_cut w P P' same = alone_same w [] false P P' same (λ e f. absurd (let bad : false ≡ true = f in cc))
+      (subst (λ (X : Progress). ran (todo.Alone w ∷ []) false l P X) (sym same) (began_none (setting_of l) l.workers l.streams Locking (todo.Alone w ∷ []) (still P)))
+
+  pub alone_more : (w : ℕ) (P Q : Progress) → has_work (setting_of l) l.workers l.streams P.state w ≡ true → Worked (setting_of l) l.workers l.streams w P Q → ActedAlone w (todo.Alone w ∷ []) true l P Q
+  alone_more w P Q works h = record {
+    turns = λ later rest z s. on (todo.Alone w ∷ []) (acts_alone (setting_of l) l.workers l.streams w P Q works h) s;
+    rests = λ e. absurd (let bad : todo.Alone w ∷ [] ≡ [] = e in cc);
+    others = λ u ne. worked_later (setting_of l) l.workers l.streams w u ne P Q h;
+    apart = λ u ne. worked_others (setting_of l) l.workers l.streams P Q w u ne true h;
+    quiet = worked_quiet (setting_of l) l.workers l.streams w P Q h;
+    silent = worked_silent (setting_of l) l.workers l.streams w P Q h;
+  }
+
+  pub alone_on : (w : ℕ) (left : List Todo) (whole : Bool) (P Q R : Progress) → ActedAlone w (todo.Alone w ∷ []) true l P Q → ActedAlone w left whole l Q R → ActedAlone w left whole l P R
+  alone_on w left whole P Q R a b = record {
+    turns = left_on (todo.Alone w ∷ []) (todo.Alone w ∷ []) left whole l P Q R a.turns b.turns;
+    rests = b.rests;
+    others = λ u ne. b.others u ne ∙ a.others u ne;
+    apart = λ u ne. b.apart u ne ∙ a.apart u ne;
+    quiet = quiet_on P.state Q.state R.state a.quiet b.quiet;
+    silent = b.silent ∙ a.silent;
+  }
+
+  -- ---- calls left over
+
+  left_same : (left : List Todo) (whole : Bool) (P P' : Progress) → P' ≡ P → leaves (todo.LeftOver ∷ []) left whole l P P' → RanLeftOver left whole l P P'
+  left_same left whole P P' same turns = record { turns = turns; quiet = quiet_same P P' same; silent = ap (λ (X : Progress). flushed_in X.events) same }
+
+  pub left_begun : (P : Progress) → RanLeftOver (todo.LeftOver ∷ []) true l P P
+  left_begun P = left_same (todo.LeftOver ∷ []) true P P refl (left_all (todo.LeftOver ∷ []) l P)
+
   -- after a stop none of them runs
-  pub left_raised : (P : Progress) → is_raised set m n P.state ≡ true → RanLeftOver set m n true P P
-  left_raised P e = record { turns = LeftOver.over (over_first (is_raised set m n P.state) (any_left set m n P.state) e); quiet = quiet_none P.state }
+  pub left_raised : (P : Progress) → is_raised (setting_of l) l.workers l.streams P.state ≡ true → RanLeftOver [] true l P P
+  left_raised P e = left_same [] true P P refl (left_over_raised (setting_of l) l.workers l.streams P e)
 
   -- nothing is left
-  pub left_none : (P P' : Progress) → any_left set m n P.state ≡ false → P' ≡ P → RanLeftOver set m n true P P'
-  left_none P P' e same = record {
-    turns = subst (λ (X : Progress). LeftOver set m n true P X) (sym same) (LeftOver.over (over_second (is_raised set m n P.state) (any_left set m n P.state) e));
-    quiet = quiet_same P P' same;
+  pub left_none : (P P' : Progress) → any_left (setting_of l) l.workers l.streams P.state ≡ false → P' ≡ P → RanLeftOver [] true l P P'
+  left_none P P' e same = left_same [] true P P' same (subst (λ (X : Progress). ran (todo.LeftOver ∷ []) true l P X) (sym same) (left_over_empty (setting_of l) l.workers l.streams P e))
+
+  -- one runs alone, to its end or a part of that
+  pub left_more : (w : ℕ) → w < l.workers → (whole : Bool) (P Q R : Progress) → is_raised (setting_of l) l.workers l.streams P.state ≡ false → Goes (setting_of l) l.workers l.streams (Resume w) P Q → ActedAlone w [] whole l Q R → RanLeftOver (todo.LeftOver ∷ []) whole l P R
+  left_more w lt whole P Q R going g a = record {
+    turns = left_after (todo.LeftOver ∷ []) (todo.Alone w ∷ []) (todo.LeftOver ∷ []) whole l P Q R (λ later rest z s. on (todo.Alone w ∷ todo.LeftOver ∷ []) (resumes (setting_of l) l.workers l.streams w P Q going lt g) s) a.turns;
+    quiet = quiet_on P.state Q.state R.state (resumed_quiet (setting_of l) l.workers l.streams w P Q g) a.quiet;
+    silent = a.silent ∙ goes_silent (setting_of l) l.workers l.streams (Resume w) P Q refl g;
   }
 
-  pub resumed_quiet : (w : ℕ) (P Q : Progress) → Goes set m n (Resume w) P Q → Quiet P.state Q.state
-  resumed_quiet w P Q g = record { grown = grows set (Resume w) P.state Q.state g.new g.leads; same = λ i. spared set i (Resume w) P.state Q.state g.new tt g.leads }
-
-  -- one runs alone
-  pub left_more : (w : ℕ) → w < m → (P Q R : Progress) → is_raised set m n P.state ≡ false → Goes set m n (Resume w) P Q → ActedAlone set m n w true Q R → (whole : Bool) (X : Progress) → RanLeftOver set m n whole R X → RanLeftOver set m n whole P X
-  left_more w lt P Q R going g a whole X rest = record {
-    turns = LeftOver.again w going lt g a.turns rest.turns;
-    quiet = quiet_on P.state Q.state X.state (resumed_quiet w P Q g) (quiet_on Q.state R.state X.state a.quiet rest.quiet);
+  pub left_over_on : (left : List Todo) (whole : Bool) (P Q R : Progress) → RanLeftOver (todo.LeftOver ∷ []) true l P Q → RanLeftOver left whole l Q R → RanLeftOver left whole l P R
+  left_over_on left whole P Q R a b = record {
+    turns = left_on (todo.LeftOver ∷ []) (todo.LeftOver ∷ []) left whole l P Q R a.turns b.turns;
+    quiet = quiet_on P.state Q.state R.state a.quiet b.quiet;
+    silent = b.silent ∙ a.silent;
   }
-
-  pub left_cut : (w : ℕ) → w < m → (P Q R : Progress) → is_raised set m n P.state ≡ false → Goes set m n (Resume w) P Q → ActedAlone set m n w false Q R → RanLeftOver set m n false P R
-  left_cut w lt P Q R going g a = record { turns = LeftOver.cut w going lt g a.turns; quiet = quiet_on P.state Q.state R.state (resumed_quiet w P Q g) a.quiet }
-
-  -- the others rest still
-  pub resumed_later : (w u : ℕ) → (u ≡ w → ⊥) → (P Q : Progress) → Goes set m n (Resume w) P Q → has_work set m n Q.state u ≡ has_work set m n P.state u
-  resumed_later w u ne P Q g =
-      let q = g.leads.0 in
-      work_same set m n P.state Q.state u (ap (λ (c : Core). c.workers u) q.after ∙ at_other w _ P.state.workers u ne)
-      (raised_same set m n P.state Q.state (ap (λ (c : Core). c.streams) q.after))

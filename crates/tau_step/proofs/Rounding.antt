@@ -1,19 +1,27 @@
 -- Rounds, a worker that acts alone, and calls left over, step by step.
-use Rattle.std.proofs.Common.{ℕ, suc, ◌<◌, ◌≡◌, Bool, true, false, inl, inr, List, [], ◌∷◌, ◌++◌, map, refl, sym, ap, subst, ◌∙◌, append_assoc, arith}
+use Rattle.std.proofs.Common.{ℕ, suc, ◌<◌, ◌≡◌, Bool, true, false, inl, inr, List, [], ◌∷◌, ◌++◌, map, refl, sym, ap, subst, ◌∙◌, append_assoc, arith, ◌+◌}
 use Rattle.std.specs.Prelude.{◌||◌}
 use Rattle.std.specs.List.{list_any}
 use Rattle.std.proofs.lemmas.Bool.{cases_Bool}
 use Rattle.std.proofs.lemmas.List.{map-append}
-use Rattle.tau_base.specs.declared.limits.TheConstants.{SHARDS}
 use Rattle.tau_machine.specs.State.{Setting, Core}
-use Rattle.tau_text.specs.declared.load.Turn.{Turn}
 use Rattle.tau_text.specs.declared.load.Turn.TheVariants as turn
 use Rattle.tau_run.specs.Run.{below}
-use Rattle.tau_run.specs.Turns.{Progress, Stays, OneByOne, Turned, TurnedAll, Worked, Cleared, DropOf, Clerked, round, Rounds, Alone, has_work, is_raised}
+use Rattle.tau_occ.specs.declared.style.Style.TheVariants.{Locking}
+use Rattle.tau_core.specs.declared.state.Load.{Load}
+use Rattle.tau_core.specs.View.{setting_of}
+use Rattle.tau_run.specs.Turns.{Progress, Stays, round, is_raised}
+use Rattle.tau_step.specs.TurnParts.{Worked, has_work, is_busy}
+use Rattle.tau_run.specs.Schedule.{Todo, Word, Rounds, still, Steps, on}
+use Rattle.tau_run.proofs.Steps.{if_yes}
+use Rattle.tau_step.proofs.ToSteps as to_steps
+use Rattle.tau_base.proofs.Lists.{map_map}
 use Rattle.tau_step.specs.Along.{Quiet}
-use Rattle.tau_step.specs.Rounding.{Rounded, RoundCut}
+use Rattle.tau_step.specs.Rounding.{becomes, leaves, ran, of_workers, of_managers, Rounded, RoundCut, rest_of_round, in_rounds}
+use Rattle.tau_step.proofs.Scheduled.{left_all, left_after, ran_both, ran_short, ran_next, ran_cut}
+use Rattle.tau_step.proofs.Silent.{worked_silent}
 use Rattle.tau_step.proofs.Growing.{grows_none, grows_on, same_none, same_on}
-use Rattle.tau_step.proofs.OneByOne.{one_none, one_more, one_cut, one_both, one_cut_behind, below_split}
+use Rattle.tau_step.proofs.OneByOne.{below_split}
 use Rattle.tau_step.proofs.Others.{worked_streams, worked_others, raised_same, work_same}
 use Rattle.tau_step.proofs.Turning.{worked_grows, worked_same}
 use Rattle.tau_base.proofs.Logic.{or_first, or_alone}
@@ -56,26 +64,6 @@ none_below f m none i lt =
     second true b e = absurd (let bad : true ≡ false = e in cc)
 
 module _ (set : Setting) (m n : ℕ) where
-  -- nothing is a part of each turn
-  one_nothing : {A : Type 0} (step : Bool → A → Progress → Progress → Type 0) → ((x : A) (P : Progress) → step false x P P) → (xs : List A) (P : Progress) → OneByOne set m n step false xs P P
-  one_nothing step h [] P = refl
-  one_nothing step h (x ∷ xs) P = inl (h x P)
-
-  turn_nothing : (t : Turn) (P : Progress) → Turned set m n false t P P
-  turn_nothing (turn.Worker w) P = refl
-  turn_nothing (turn.Manager j) P = inl refl
-  turn_nothing (turn.Anchor j) P = refl
-  turn_nothing turn.Clerk P = one_nothing (λ b w. Cleared set m n w b) (λ w X. Cleared.cut) (below m) P
-  turn_nothing turn.Drop P = one_nothing (DropOf set m n) (λ i X. refl) (below SHARDS) P
-
-  all_nothing : (ts : List Turn) (P : Progress) → TurnedAll set m n false ts P P
-  all_nothing ts P = one_nothing (Turned set m n) turn_nothing ts P
-
-  cut_front : (xs ys : List Turn) (P P' : Progress) → TurnedAll set m n false xs P P' → TurnedAll set m n false (xs ++ ys) P P'
-  cut_front [] ys P P' e = subst (λ (X : Progress). TurnedAll set m n false ys P X) (sym e) (all_nothing ys P)
-  cut_front (x ∷ xs) ys P P' (inl h) = inl h
-  cut_front (x ∷ xs) ys P P' (inr h) = inr (h.0, h.1, cut_front xs ys h.0 P' h.2)
-
   -- a worker that has nothing to do
   pub worked_still : (w : ℕ) (P P' : Progress) → has_work set m n P.state w ≡ false → Worked set m n w P P' → P' ≡ P
   worked_still w P P' none h = if_else (has_work set m n P.state w) _ _ none h
@@ -83,69 +71,70 @@ module _ (set : Setting) (m n : ℕ) where
   pub worked_quiet : (w : ℕ) (P P' : Progress) → Worked set m n w P P' → Quiet P.state P'.state
   worked_quiet w P P' h = record { grown = worked_grows set m n P P' w true h; same = λ i. worked_same set m n P P' i w true h }
 
-  pub worked_raised : (w : ℕ) (P P' : Progress) → Worked set m n w P P' → is_raised set m n P'.state ≡ is_raised set m n P.state
+  worked_raised : (w : ℕ) (P P' : Progress) → Worked set m n w P P' → is_raised set m n P'.state ≡ is_raised set m n P.state
   worked_raised w P P' h = raised_same set m n P.state P'.state (worked_streams set m n P P' w true h)
 
   pub worked_later : (w u : ℕ) → (u ≡ w → ⊥) → (P P' : Progress) → Worked set m n w P P' → has_work set m n P'.state u ≡ has_work set m n P.state u
   worked_later w u ne P P' h = work_same set m n P.state P'.state u (worked_others set m n P P' w u ne true h) (worked_raised w P P' h)
 
-  -- ---- a round of workers
+-- ---- a round of workers
 
-  pub rounded_none : (P : Progress) → Rounded set m n 0 false P P
-  rounded_none P = record { turns = one_none set m n (Turned set m n) P; any_is = refl; still = λ e. refl; later = λ w le. refl; quiet = quiet_none P.state }
+pub rounded_none : (l : Load) (P : Progress) → Rounded 0 false l P P
+rounded_none l P = record { turns = left_all [] l P; any_is = refl; still = λ e. refl; later = λ w le. refl; quiet = quiet_none P.state; silent = refl }
 
-  pub rounded_more : (i : ℕ) (any did any' : Bool) (P Q P' : Progress) → Rounded set m n i any P Q → did ≡ has_work set m n Q.state i → Worked set m n i Q P' → any' ≡ (any || did) → Rounded set m n (suc i) any' P P'
-  rounded_more i any did any' P Q P' r is h e =
-      let found : did ≡ has_work set m n P.state i = is ∙ r.later i (omega arith) in
-      record {
-        turns = subst (λ (ts : List Turn). TurnedAll set m n true ts P P') (sym (map-append turn.Worker (below i) (i ∷ [])))
-            (one_more set m n (Turned set m n) (map turn.Worker (below i)) (turn.Worker i) P Q P' r.turns h);
-        any_is = e ∙ ap (λ (b : Bool). b || did) r.any_is ∙ ap (λ (b : Bool). list_any (has_work set m n P.state) (below i) || b) found ∙ sym (any_more (has_work set m n P.state) i);
-        still = λ none.
-            (let both : (any || did) ≡ false = sym e ∙ none in
-            let first = or_first any did both in
-            let second : did ≡ false = sym (ap (λ (b : Bool). b || did) first) ∙ both in
-            worked_still i Q P' (sym is ∙ second) h ∙ r.still first);
-        later = λ w le. worked_later i w (λ same. absurd (omega (arith, same, le))) Q P' h ∙ r.later w (omega (arith, le));
-        quiet = quiet_on P.state Q.state P'.state r.quiet (worked_quiet i Q P' h);
-      }
+pub rounded_more : (i : ℕ) (any did any' : Bool) (l : Load) (P Q P' : Progress) → Rounded i any l P Q → did ≡ has_work (setting_of l) l.workers l.streams Q.state i → Worked (setting_of l) l.workers l.streams i Q P' → any' ≡ (any || did) → Rounded (i + 1) any' l P P'
+rounded_more i any did any' l P Q P' r is h e =
+    let set = setting_of l in
+    let found : did ≡ has_work set l.workers l.streams P.state i = is ∙ r.later i (omega arith) in
+    let next : suc i ≡ i + 1 = omega arith in
+    record {
+      turns = ran_next (λ w. Word (turn.Worker w)) i l P Q P' r.turns (to_steps.worked set l.workers l.streams i Q P' h);
+      any_is = e ∙ ap (λ (b : Bool). b || did) r.any_is ∙ ap (λ (b : Bool). list_any (has_work set l.workers l.streams P.state) (below i) || b) found ∙ sym (any_more (has_work set l.workers l.streams P.state) i)
+          ∙ ap (λ (k : ℕ). list_any (has_work set l.workers l.streams P.state) (below k)) next;
+      still = λ none.
+          (let both : (any || did) ≡ false = sym e ∙ none in
+          let first = or_first any did both in
+          let second : did ≡ false = sym (ap (λ (b : Bool). b || did) first) ∙ both in
+          worked_still set l.workers l.streams i Q P' (sym is ∙ second) h ∙ r.still first);
+      later = λ w le. worked_later set l.workers l.streams i w (λ same. absurd (omega (arith, same, le))) Q P' h ∙ r.later w (omega (arith, le));
+      quiet = quiet_on P.state Q.state P'.state r.quiet (worked_quiet set l.workers l.streams i Q P' h);
+      silent = worked_silent set l.workers l.streams i Q P' h ∙ r.silent;
+    }
 
-  pub rounded_cut : (i : ℕ) (any : Bool) (P Q P' : Progress) → i < m → Rounded set m n i any P Q → Stays Q P' → RoundCut set m n P P'
-  rounded_cut i any P Q P' lt r e =
-      let split = below_split i m lt in
-      let words : map turn.Worker (below m) ≡ map turn.Worker (below i) ++ turn.Worker i ∷ map turn.Worker split.0 = ap (map turn.Worker) split.1 ∙ map-append turn.Worker (below i) (i ∷ split.0) in
-      record {
-        turns = subst (λ (ts : List Turn). TurnedAll set m n false ts P P') (sym words) (one_cut set m n (Turned set m n) (map turn.Worker (below i)) (turn.Worker i) (map turn.Worker split.0) P Q P' r.turns e);
-        still = λ none. e ∙ r.still (r.any_is ∙ any_below (has_work set m n P.state) i m lt none);
-        quiet = quiet_on P.state Q.state P'.state r.quiet (quiet_same Q P' e);
-      }
+pub rounded_cut : (i : ℕ) (any : Bool) (l : Load) (P Q P' : Progress) → i < l.workers → Rounded i any l P Q → Stays Q P' → RoundCut l P P'
+rounded_cut i any l P Q P' lt r e = record {
+  turns = ran_cut (λ w. Word (turn.Worker w)) i l.workers lt l P Q P' r.turns (to_steps.turned_part (setting_of l) l.workers l.streams (turn.Worker i) Q P' e);
+  still = λ none. e ∙ r.still (r.any_is ∙ any_below (has_work (setting_of l) l.workers l.streams P.state) i l.workers lt none);
+  quiet = quiet_on P.state Q.state P'.state r.quiet (quiet_same Q P' e);
+}
 
-  -- ---- rounds
+-- ---- rounds
 
-  pub rounds_none : (P : Progress) → (whole : Bool) (Q : Progress) → Rounds set m n whole P Q → Rounds set m n whole P Q
-  rounds_none P whole Q r = r
+-- a round begins
+pub round_begins : (l : Load) (P : Progress) → is_busy (setting_of l) l.workers l.streams P.state ≡ true → becomes (Rounds ∷ []) (of_workers (below l.workers) ++ (of_managers (below l.streams) ++ Word turn.Clerk ∷ []) ++ Rounds ∷ []) l P P
+round_begins l P busy = λ later rest z s. on (map Word (round (setting_of l) l.workers l.streams) ++ Rounds ∷ []) (if_yes (is_busy (setting_of l) l.workers l.streams P.state) _ _ busy (refl, refl))
+    (subst (λ (ts : List Todo). Steps (setting_of l) l.workers l.streams Locking ((ts ++ Rounds ∷ []) ++ later) (still P) rest z) words s)
+  where
+    words : of_workers (below l.workers) ++ (of_managers (below l.streams) ++ Word turn.Clerk ∷ []) ≡ map Word (round (setting_of l) l.workers l.streams)
+    words =
+        ap (λ (ts : List Todo). ts ++ (of_managers (below l.streams) ++ Word turn.Clerk ∷ [])) (sym (map_map Word turn.Worker (below l.workers)))
+        ∙ ap (λ (ts : List Todo). map Word (map turn.Worker (below l.workers)) ++ (ts ++ Word turn.Clerk ∷ [])) (sym (map_map Word turn.Manager (below l.streams)))
+        ∙ sym (append_assoc (map Word (map turn.Worker (below l.workers))) (map Word (map turn.Manager (below l.streams))) (Word turn.Clerk ∷ []))
+        ∙ ap (λ (ts : List Todo). ts ++ Word turn.Clerk ∷ []) (sym (map-append Word (map turn.Worker (below l.workers)) (map turn.Manager (below l.streams))))
+        ∙ sym (map-append Word (map turn.Worker (below l.workers) ++ map turn.Manager (below l.streams)) (turn.Clerk ∷ []))
 
-  round_as : (whole : Bool) (P P' : Progress) → TurnedAll set m n whole (map turn.Worker (below m) ++ (map turn.Manager (below n) ++ turn.Clerk ∷ [])) P P' → TurnedAll set m n whole (round set m n) P P'
-  round_as whole P P' h = subst (λ (ts : List Turn). TurnedAll set m n whole ts P P') (sym (append_assoc (map turn.Worker (below m)) (map turn.Manager (below n)) (turn.Clerk ∷ []))) h
+-- and none begins
+pub rounds_over : (l : Load) (P P' : Progress) → is_busy (setting_of l) l.workers l.streams P.state ≡ false → P' ≡ P → in_rounds true l P P'
+rounds_over l P P' none same = subst (λ (X : Progress). in_rounds true l P X) (sym same)
+    (to_steps.rounds_over (setting_of l) l.workers l.streams P none)
 
-  -- a whole round
-  pub round_whole : (P A B C : Progress) → TurnedAll set m n true (map turn.Worker (below m)) P A → TurnedAll set m n true (map turn.Manager (below n)) A B → Clerked set m n true B C → TurnedAll set m n true (round set m n) P C
-  round_whole P A B C workers managers clerk =
-      round_as true P C (one_both set m n (Turned set m n) (map turn.Worker (below m)) (map turn.Manager (below n) ++ turn.Clerk ∷ []) P A C workers (one_more set m n (Turned set m n) (map turn.Manager (below n)) turn.Clerk A B C managers clerk))
+round_done : (whole : Bool) (l : Load) (P P' : Progress) → ran (of_workers (below l.workers) ++ (of_managers (below l.streams) ++ Word turn.Clerk ∷ [])) whole l P P' → is_busy (setting_of l) l.workers l.streams P.state ≡ true → leaves (Rounds ∷ []) (Rounds ∷ []) whole l P P'
+round_done whole l P P' r busy = left_after (Rounds ∷ []) (of_workers (below l.workers) ++ (of_managers (below l.streams) ++ Word turn.Clerk ∷ [])) (Rounds ∷ []) whole l P P P' (round_begins l P busy) r
 
-  -- and one that is left undone: among the workers, among the managers, or at the clerk
-  pub round_workers : (P A : Progress) → TurnedAll set m n false (map turn.Worker (below m)) P A → TurnedAll set m n false (round set m n) P A
-  round_workers P A workers = round_as false P A (cut_front (map turn.Worker (below m)) (map turn.Manager (below n) ++ turn.Clerk ∷ []) P A workers)
+-- the workers' part of a round, and the rest of it, or a part
+pub round_rest_of : (whole : Bool) (l : Load) (P A P' : Progress) → is_busy (setting_of l) l.workers l.streams P.state ≡ true → ran (of_workers (below l.workers)) true l P A → rest_of_round whole l A P' → leaves (Rounds ∷ []) (Rounds ∷ []) whole l P P'
+round_rest_of whole l P A P' busy workers rest =
+    round_done whole l P P' (ran_both (of_workers (below l.workers)) (of_managers (below l.streams) ++ Word turn.Clerk ∷ []) whole l P A P' workers rest) busy
 
-  pub round_managers : (P A B : Progress) → TurnedAll set m n true (map turn.Worker (below m)) P A → TurnedAll set m n false (map turn.Manager (below n)) A B → TurnedAll set m n false (round set m n) P B
-  round_managers P A B workers managers =
-      round_as false P B (one_cut_behind set m n (Turned set m n) (map turn.Worker (below m)) (map turn.Manager (below n) ++ turn.Clerk ∷ []) P A B workers (cut_front (map turn.Manager (below n)) (turn.Clerk ∷ []) A B managers))
-
-  pub round_clerk : (P A B C : Progress) → TurnedAll set m n true (map turn.Worker (below m)) P A → TurnedAll set m n true (map turn.Manager (below n)) A B → Clerked set m n false B C → TurnedAll set m n false (round set m n) P C
-  round_clerk P A B C workers managers clerk =
-      round_as false P C (one_cut_behind set m n (Turned set m n) (map turn.Worker (below m)) (map turn.Manager (below n) ++ turn.Clerk ∷ []) P A C workers (one_cut set m n (Turned set m n) (map turn.Manager (below n)) turn.Clerk [] A B C managers clerk))
-
-  -- ---- a worker alone
-
-  pub alone_over : (w : ℕ) (P P' : Progress) → has_work set m n P.state w ≡ false → P' ≡ P → Alone set m n w true P P'
-  alone_over w P P' none e = subst (λ (X : Progress). Alone set m n w true P X) (sym e) (Alone.over none)
+pub round_cut_short : (l : Load) (P P' : Progress) → is_busy (setting_of l) l.workers l.streams P.state ≡ true → ran (of_workers (below l.workers)) false l P P' → in_rounds false l P P'
+round_cut_short l P P' busy workers = round_done false l P P' (ran_short (of_workers (below l.workers)) (of_managers (below l.streams) ++ Word turn.Clerk ∷ []) l P P' workers) busy

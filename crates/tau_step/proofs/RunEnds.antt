@@ -1,6 +1,6 @@
 -- What a whole run by turns leaves at its end.
-use Rattle.std.proofs.Common.{ℕ, zero, suc, ◌+◌, ◌<◌, ◌≤◌, ◌==◌, ◌≡◌, ◌⊎◌, Bool, true, false, inl, inr, List, [], ◌∷◌, ◌++◌, refl, sym, ap, subst, ◌∙◌, arith, get_or-set_other}
-use Rattle.std.specs.Prelude.{Some, None, is_some, ◌&&◌, not, slice_index}
+use Rattle.std.proofs.Common.{ℕ, zero, suc, ◌+◌, ◌<◌, ◌≤◌, ◌==◌, ◌≡◌, ◌⊎◌, Bool, true, false, inl, inr, List, [], ◌∷◌, ◌++◌, map, refl, sym, ap, subst, ◌∙◌, arith, get_or-set_other}
+use Rattle.std.specs.Prelude.{Option, Some, None, is_some, ◌&&◌, not, slice_index}
 use Rattle.std.specs.List.{filter, list_any}
 use Rattle.std.proofs.lemmas.Bool.{cases_Bool, cases_eq, cases_lt, ne_eqb}
 use Rattle.tau_base.specs.declared.limits.TheConstants.{MAX_BODY}
@@ -22,7 +22,17 @@ use Rattle.tau_machine.proofs.Results.{committed_theorem}
 use Rattle.tau_text.specs.declared.load.Turn.{Turn}
 use Rattle.tau_run.specs.StopsLeave.{IsOver}
 use Rattle.tau_run.specs.Run.{below}
-use Rattle.tau_run.specs.Turns.{Progress, Stays, IfSo, Goes, Waits, IsGathered, Gathers, Flushed, ManagedPart, Cleared, OneByOne, Rounds, Alone, LeftOver, Idled, IsWholeRun, has_work, is_busy, is_raised, is_going, is_empty, any_left}
+use Rattle.tau_occ.specs.declared.style.Style.{Style}
+use Rattle.tau_occ.specs.declared.style.Style.TheVariants.{Locking}
+use Rattle.tau_text.specs.declared.load.Turn.TheVariants as turn
+use Rattle.tau_run.specs.Schedule as todo
+use Rattle.tau_run.specs.Schedule.{RunState, still, state_of, any_turn, Steps, IsWhole}
+use Rattle.tau_run.proofs.LateSteps.{late, all_late, ends_in}
+use Rattle.tau_run.proofs.Still.{steps_still}
+use Rattle.tau_step.specs.RunsEnd.{HasEnded, WholeRunsEnd}
+use Rattle.tau_run.specs.Turns.{Progress, Stays, IfSo, Goes, Waits, IsGathered, Gathers, Flushed, is_raised, is_going, is_empty, any_left}
+use Rattle.tau_step.specs.TurnParts.{ManagedPart, Cleared, Clerked, OneByOne, has_work, is_busy}
+use Rattle.tau_step.proofs.Late.{Alone, LeftOver, Idled, wholes, wholes_append, drains, only}
 use Rattle.tau_step.proofs.Idling.{gathered_stop, stopped_there, none_some}
 use Rattle.tau_step.proofs.Others.{IsElsewhere, elsewhere, worked_streams, worked_others, raised_same}
 use Rattle.tau_step.proofs.Resting.{any_none, rest_hand, rest_waiting, busy_none}
@@ -47,6 +57,10 @@ member_below w (suc m) lt = elim (cases_eq w m) [
     front (x ∷ xs) (inl e) = inl e
     front (x ∷ xs) (inr q) = inr (front xs q)
 
+unstopped : (o : Option ℕ) → is_some o ≡ false → o ≡ None
+unstopped None e = refl
+unstopped (Some k) e = absurd (let bad : true ≡ false = e in cc)
+
 record_is : (u t : Act Txn) → Record u ≡ Record t → u ≡ t
 record_is u t e = cc e
 
@@ -58,47 +72,39 @@ module _ (set : Setting) (m n : ℕ) where
     hands : (w : ℕ) → w < m → (s.workers w).hand ≡ None
     waiting : is_raised set m n s ≡ false → (w : ℕ) → w < m → (s.workers w).waiting ≡ []
 
-  rounds_end : (whole : Bool) (P P' : Progress) → whole ≡ true → Rounds set m n whole P P' → is_busy set m n P'.state ≡ false
-  rounds_end whole P P' e (Rounds.over none) = none
-  rounds_end whole P P' e (Rounds.again {q = Q} b h more) = rounds_end whole Q P' e more
-  rounds_end whole P P' e (Rounds.cut b h) = absurd (not_both false refl e)
-
   rests_all : (s : Core) → is_busy set m n s ≡ false → AtRest s
   rests_all s e = record {
     hands = λ w lt. rest_hand set m n s w lt (busy_none set m n s e w lt);
     waiting = λ going w lt. rest_waiting set m n s w lt going (busy_none set m n s e w lt);
   }
 
-  alone_end : (w : ℕ) (whole : Bool) (P P' : Progress) → whole ≡ true → Alone set m n w whole P P' → has_work set m n P'.state w ≡ false
-  alone_end w whole P P' e (Alone.over none) = none
-  alone_end w whole P P' e (Alone.again {q = Q} b h more) = alone_end w whole Q P' e more
-  alone_end w whole P P' e Alone.cut = absurd (not_both false refl e)
+  alone_end : (w : ℕ) (P P' : Progress) → Alone set m n w P P' → has_work set m n P'.state w ≡ false
+  alone_end w P P' (Alone.over none) = none
+  alone_end w P P' (Alone.again {q = Q} h more) = alone_end w Q P' more
 
-  alone_others : (w u : ℕ) → (u ≡ w → ⊥) → (whole : Bool) (P P' : Progress) → Alone set m n w whole P P' → P'.state.workers u ≡ P.state.workers u
-  alone_others w u ne whole P P' (Alone.over none) = refl
-  alone_others w u ne whole P P' (Alone.again {q = Q} b h more) = alone_others w u ne whole Q P' more ∙ worked_others set m n P Q w u ne true h
-  alone_others w u ne whole P P' Alone.cut = refl
+  alone_others : (w u : ℕ) → (u ≡ w → ⊥) → (P P' : Progress) → Alone set m n w P P' → P'.state.workers u ≡ P.state.workers u
+  alone_others w u ne P P' (Alone.over none) = refl
+  alone_others w u ne P P' (Alone.again {q = Q} h more) = alone_others w u ne Q P' more ∙ worked_others set m n P Q w u ne true h
 
-  alone_streams : (w : ℕ) (whole : Bool) (P P' : Progress) → Alone set m n w whole P P' → P'.state.streams ≡ P.state.streams
-  alone_streams w whole P P' (Alone.over none) = refl
-  alone_streams w whole P P' (Alone.again {q = Q} b h more) = alone_streams w whole Q P' more ∙ worked_streams set m n P Q w true h
-  alone_streams w whole P P' Alone.cut = refl
+  alone_streams : (w : ℕ) (P P' : Progress) → Alone set m n w P P' → P'.state.streams ≡ P.state.streams
+  alone_streams w P P' (Alone.over none) = refl
+  alone_streams w P P' (Alone.again {q = Q} h more) = alone_streams w Q P' more ∙ worked_streams set m n P Q w true h
 
   -- after a call that ran alone all rest again
-  rests_again : (w : ℕ) → w < m → (P A B : Progress) → AtRest P.state → is_raised set m n P.state ≡ false → Goes set m n (Resume w) P A → Alone set m n w true A B → AtRest B.state
+  rests_again : (w : ℕ) → w < m → (P A B : Progress) → AtRest P.state → is_raised set m n P.state ≡ false → Goes set m n (Resume w) P A → Alone set m n w A B → AtRest B.state
   rests_again w lt P A B rest going g a =
       let q = g.leads.0 in
       let raised : is_raised set m n B.state ≡ false =
-      raised_same set m n A.state B.state (alone_streams w true A B a) ∙ raised_same set m n P.state A.state (ap (λ (c : Core). c.streams) q.after) ∙ going in
-      let done = alone_end w true A B refl a in
+      raised_same set m n A.state B.state (alone_streams w A B a) ∙ raised_same set m n P.state A.state (ap (λ (c : Core). c.streams) q.after) ∙ going in
+      let done = alone_end w A B a in
       record {
         hands = λ u below. elim (cases_eq u w) [
           | inl e ↦ subst (λ (k : ℕ). (B.state.workers k).hand ≡ None) (sym e) (rest_hand set m n B.state w lt done)
-          | inr ne ↦ ap (λ (wk : Worker). wk.hand) (alone_others w u ne true A B a) ∙ ap (λ (c : Core). (c.workers u).hand) q.after ∙ ap (λ (wk : Worker). wk.hand) (at_other w _ P.state.workers u ne) ∙ rest.hands u below
+          | inr ne ↦ ap (λ (wk : Worker). wk.hand) (alone_others w u ne A B a) ∙ ap (λ (c : Core). (c.workers u).hand) q.after ∙ ap (λ (wk : Worker). wk.hand) (at_other w _ P.state.workers u ne) ∙ rest.hands u below
         ];
         waiting = λ none u below. elim (cases_eq u w) [
           | inl e ↦ subst (λ (k : ℕ). (B.state.workers k).waiting ≡ []) (sym e) (rest_waiting set m n B.state w lt raised done)
-          | inr ne ↦ ap (λ (wk : Worker). wk.waiting) (alone_others w u ne true A B a) ∙ ap (λ (c : Core). (c.workers u).waiting) q.after ∙ ap (λ (wk : Worker). wk.waiting) (at_other w _ P.state.workers u ne) ∙ rest.waiting going u below
+          | inr ne ↦ ap (λ (wk : Worker). wk.waiting) (alone_others w u ne A B a) ∙ ap (λ (c : Core). (c.workers u).waiting) q.after ∙ ap (λ (wk : Worker). wk.waiting) (at_other w _ P.state.workers u ne) ∙ rest.waiting going u below
         ];
       }
 
@@ -107,15 +113,13 @@ module _ (set : Setting) (m n : ℕ) where
     rest : AtRest s
     none : is_raised set m n s ≡ false → any_left set m n s ≡ false
 
-  left_end : (whole : Bool) (P P' : Progress) → whole ≡ true → AtRest P.state → LeftOver set m n whole P P' → NoneOver P'.state
-  left_end whole P P' e rest (LeftOver.over none) = record { rest = rest; none = λ going. only (is_raised set m n P.state) (any_left set m n P.state) going none }
+  left_end : (P P' : Progress) → AtRest P.state → LeftOver set m n P P' → NoneOver P'.state
+  left_end P P' rest (LeftOver.over none) = record { rest = rest; none = λ going. second (is_raised set m n P.state) (any_left set m n P.state) going none }
     where
-      only : (a b : Bool) → a ≡ false → (not a && b) ≡ false → b ≡ false
-      only false b f q = q
-      only true b f q = absurd (not_both true f refl)
-  left_end whole P P' e rest (LeftOver.again {a = A} {b = B} w going lt g a more) = left_end whole B P' e (rests_again w lt P A B rest going g a) more
-  left_end whole P P' e rest (LeftOver.cut w going lt g a) = absurd (not_both false refl e)
-  left_end whole P P' e rest LeftOver.stop = absurd (not_both false refl e)
+      second : (a b : Bool) → a ≡ false → (not a && b) ≡ false → b ≡ false
+      second false b f q = q
+      second true b f q = absurd (not_both true f refl)
+  left_end P P' rest (LeftOver.again {a = A} {b = B} w going lt g a more) = left_end B P' (rests_again w lt P A B rest going g a) more
 
   empty_none : {A : Type 0} (xs : List A) → not (is_empty xs) ≡ false → xs ≡ []
   empty_none [] e = refl
@@ -127,15 +131,14 @@ module _ (set : Setting) (m n : ℕ) where
   -- ---- what managers keep
 
   module _ (Q : Core → Core → Type 0) (none : (s : Core) → Q s s) (on : (s t u : Core) → Q s t → Q t u → Q s u) (allows : Event → Type 0) (leads : (e : Event) (s s' : Core) (new : List (Act Txn)) → allows e → Leads set e s s' new → Q s s') where
-    idled_keep : (j : ℕ) → allows (Gather j) → ((u : ℕ) → allows (Persist j u)) → ((u : ℕ) → allows (Stop j u)) → (whole : Bool) (P P' : Progress) → Idled set m n j whole P P' → Q P.state P'.state
-    idled_keep j g p s whole P P' (Idled.failed e) = none P.state
-    idled_keep j g p s whole P P' (Idled.idle e h f) = leads (Gather j) P.state P'.state h.0.new g h.0.leads
-    idled_keep j g p s whole P P' (Idled.again A B e h f k more) =
-        on P.state B.state P'.state (managed_keep set m n Q none on allows leads j g p s true P B (whole_turn P A B e h k)) (idled_keep j g p s whole B P' more)
+    idled_keep : (j : ℕ) → allows (Gather j) → ((u : ℕ) → allows (Persist j u)) → ((u : ℕ) → allows (Stop j u)) → (P P' : Progress) → Idled set m n j P P' → Q P.state P'.state
+    idled_keep j g p s P P' (Idled.failed e) = none P.state
+    idled_keep j g p s P P' (Idled.idle h f) = leads (Gather j) P.state P'.state h.0.new g h.0.leads
+    idled_keep j g p s P P' (Idled.again A B e h k more) =
+        on P.state B.state P'.state (managed_keep set m n Q none on allows leads j g p s true P B (whole_turn P A B e h k)) (idled_keep j g p s B P' more)
       where
         whole_turn : (P A B : Progress) → is_going set m n P.state j ≡ true → Gathers set m n j P A → Flushed set m n j A B → ManagedPart set m n true j P B
         whole_turn P A B e h k = subst (λ (b : Bool). IfSo b ((q : Progress) × Gathers set m n j P q × Flushed set m n j q B) (Stays P B)) (sym e) (A, h, k)
-    idled_keep j g p s whole P P' (Idled.cut h) = managed_keep set m n Q none on allows leads j g p s false P P' h
 
     cleared_keeps : ((w : ℕ) (v : List ℕ) → allows (Ack w v)) → (w : ℕ) (whole : Bool) (P P' : Progress) → Cleared set m n w whole P P' → Q P.state P'.state
     cleared_keeps acks w whole P P' (Cleared.none e) = none P.state
@@ -280,24 +283,23 @@ module _ (set : Setting) (m n : ℕ) where
   is_equal : (a b : ℕ) → (a == b) ≡ true → a ≡ b
   is_equal a b e = elim (cases_eq a b) [ inl p ↦ p | inr ne ↦ absurd (not_both (a == b) (ne_eqb a b ne) e) ]
 
-  idled_settled : (j : ℕ) → j < n → (whole : Bool) (P P' : Progress) → whole ≡ true → (P'.state.streams j).stop ≡ None → Idled set m n j whole P P' → Settled j P'.state
-  idled_settled j lt whole P P' e going (Idled.failed f) = absurd (stopped_there set m n j lt P.state f going)
-  idled_settled j lt whole P P' e going (Idled.idle f h all) = record { gathered = h.1; persisted = is_equal (slice_index P'.state.gathered j) (slice_index P'.state.plv j) all }
-  idled_settled j lt whole P P' e going (Idled.again A B f h new k more) = idled_settled j lt whole B P' e going more
-  idled_settled j lt whole P P' e going (Idled.cut h) = absurd (not_both false refl e)
+  idled_settled : (j : ℕ) → j < n → (P P' : Progress) → (P'.state.streams j).stop ≡ None → Idled set m n j P P' → Settled j P'.state
+  idled_settled j lt P P' going (Idled.failed f) = absurd (stopped_there set m n j lt P.state f going)
+  idled_settled j lt P P' going (Idled.idle h all) = record { gathered = h.1; persisted = is_equal (slice_index P'.state.gathered j) (slice_index P'.state.plv j) all }
+  idled_settled j lt P P' going (Idled.again A B f h k more) = idled_settled j lt B P' going more
 
   -- after all managers each stream is settled that is not stopped
-  all_settled : (j : ℕ) → j < n → (xs : List ℕ) (P P' : Progress) → Member j xs ⊎ Settled j P.state → (P'.state.streams j).stop ≡ None → OneByOne set m n (λ b i. Idled set m n i b) true xs P P' → Settled j P'.state
+  all_settled : (j : ℕ) → j < n → (xs : List ℕ) (P P' : Progress) → Member j xs ⊎ Settled j P.state → (P'.state.streams j).stop ≡ None → OneByOne set m n (λ b i. Idled set m n i) true xs P P' → Settled j P'.state
   all_settled j lt [] P P' how going h = elim how [ inl q ↦ absurd q | inr s ↦ subst (λ (X : Progress). Settled j X.state) (sym h) s ]
   all_settled j lt (x ∷ xs) P P' how going (R, first, rest) =
       let later : (R.state.streams j).stop ≡ None =
-      each_keeps (WasGoing j) (λ s e. e) (λ s t u a b e. a (b e)) IsLate (was_going j) (λ b i. Idled set m n i b) xs
-      (λ i A B q k. idled_keep (WasGoing j) (λ s e. e) (λ s t u a b e. a (b e)) IsLate (was_going j) i tt (λ u. tt) (λ u. tt) true A B k) R P' rest going in
+      each_keeps (WasGoing j) (λ s e. e) (λ s t u a b e. a (b e)) IsLate (was_going j) (λ b i. Idled set m n i) xs
+      (λ i A B q k. idled_keep (WasGoing j) (λ s e. e) (λ s t u a b e. a (b e)) IsLate (was_going j) i tt (λ u. tt) (λ u. tt) A B k) R P' rest going in
       all_settled j lt xs R P' (elim (cases_eq j x) [
-        | inl e ↦ inr (idled_settled j lt true P R refl later (subst (λ (k : ℕ). Idled set m n k true P R) (sym e) first))
+        | inl e ↦ inr (idled_settled j lt P R later (subst (λ (k : ℕ). Idled set m n k P R) (sym e) first))
         | inr ne ↦ elim how [
           | inl q ↦ elim q [ inl is ↦ absurd (ne (sym is)) | inr more ↦ inl more ]
-          | inr s ↦ inr (settled_apart j P.state R.state (idled_keep (Apart j) (apart_none j) (apart_on j) (IsApart j) (apart_event j) x ne (λ u. ne) (λ u. ne) true P R first) s)
+          | inr s ↦ inr (settled_apart j P.state R.state (idled_keep (Apart j) (apart_none j) (apart_on j) (IsApart j) (apart_event j) x ne (λ u. ne) (λ u. ne) P R first) s)
         ]
       ]) going rest
 
@@ -401,48 +403,79 @@ module _ (set : Setting) (m n : ℕ) where
           | inr f ↦ flying_none i f
         ])
 
-  pub whole_over : (turns : List Turn) (opening : Core) (K : List (Act Txn)) (P : Progress) → Invariant set K P.state → set.width ≡ n → ((k : ℕ) → set.worker_of k < m) → IsBeyond P.state → AreShort P.state →
-      IsWholeRun set m n turns opening P → IsOver n P.state
-  whole_over turns opening K P inv width small beyond short r = record {
+  -- after rounds in which no worker had anything to do
+  module _ (rounds alone flushed P : Progress) (none : is_busy set m n rounds.state ≡ false) (left_over : LeftOver set m n rounds alone) (managers : OneByOne set m n (λ b j. Idled set m n j) true (below n) alone flushed)
+      (clerk : Clerked set m n true flushed P) where
+    over : NoneOver alone.state
+    over = left_end rounds alone (rests_all rounds.state none) left_over
+
+    clerk_keeps : (Q : Core → Core → Type 0) → ((s : Core) → Q s s) → ((s t u : Core) → Q s t → Q t u → Q s u) → (allows : Event → Type 0) → ((e : Event) (s s' : Core) (new : List (Act Txn)) → allows e → Leads set e s s' new → Q s s') →
+        ((w : ℕ) (v : List ℕ) → allows (Ack w v)) → Q flushed.state P.state
+    clerk_keeps Q same on allows leads acks = each_keeps Q same on allows leads (λ b w. Cleared set m n w b) (below m) (λ w A B q k. cleared_keeps Q same on allows leads acks w true A B k) flushed P clerk
+
+    same : P.state.workers ≡ alone.state.workers
+    same =
+        clerk_keeps (λ s s'. s'.workers ≡ s.workers) (λ s. refl) (λ s t u a b. b ∙ a) IsElsewhere (elsewhere set) (λ w v. tt)
+        ∙ each_keeps (λ s s'. s'.workers ≡ s.workers) (λ s. refl) (λ s t u a b. b ∙ a) IsElsewhere (elsewhere set) (λ b i. Idled set m n i) (below n)
+        (λ i A B q k. idled_keep (λ s s'. s'.workers ≡ s.workers) (λ s. refl) (λ s t u a b. b ∙ a) IsElsewhere (elsewhere set) i tt (λ u. tt) (λ u. tt) A B k) alone flushed managers
+
+    before_clerk : (j : ℕ) → (P.state.streams j).stop ≡ None → (flushed.state.streams j).stop ≡ None
+    before_clerk j e = clerk_keeps (WasGoing j) (λ s q. q) (λ s t u a b q. a (b q)) IsLate (was_going j) (λ w v. tt) e
+
+    before_managers : (j : ℕ) → (flushed.state.streams j).stop ≡ None → (alone.state.streams j).stop ≡ None
+    before_managers j e = each_keeps (WasGoing j) (λ s q. q) (λ s t u a b q. a (b q)) IsLate (was_going j) (λ b i. Idled set m n i) (below n)
+        (λ i A B q k. idled_keep (WasGoing j) (λ s q. q) (λ s t u a b q. a (b q)) IsLate (was_going j) i tt (λ u. tt) (λ u. tt) A B k) alone flushed managers e
+
+    settled : (j : ℕ) → j < n → (P.state.streams j).stop ≡ None → Settled j P.state
+    settled j lt going = settled_apart j flushed.state P.state (clerk_keeps (Apart j) (apart_none j) (apart_on j) (IsApart j) (apart_event j) (λ w v. tt))
+        (all_settled j lt (below n) alone flushed (inl (member_below j n lt)) (before_clerk j going) managers)
+
+    not_before : is_raised set m n P.state ≡ false → is_raised set m n alone.state ≡ false
+    not_before e = any_none (λ j. is_some (alone.state.streams j).stop) n
+        (λ j lt. ap is_some (before_managers j (before_clerk j (unstopped (P.state.streams j).stop (none_below (λ i. is_some (P.state.streams i).stop) n e j lt)))))
+
+    pub late_ends : HasEnded set m n P.state
+    late_ends = record {
+      hands = λ w lt. ap (λ (f : ℕ → Worker). (f w).hand) same ∙ over.rest.hands w lt;
+      done = λ going w lt. (ap (λ (f : ℕ → Worker). (f w).waiting) same ∙ over.rest.waiting (not_before going) w lt, ap (λ (f : ℕ → Worker). (f w).left) same ∙ done_left alone.state over (not_before going) w lt);
+      gathered = λ j lt going. let k = settled j lt going in (k.gathered, k.persisted);
+      told = λ w lt. all_cleared w (below m) flushed P (inl (member_below w m lt)) clerk;
+    }
+
+  -- of what is done in the style Locking once rounds have ended
+  ends_by : (y x : RunState) → y ≡ still y.progress → any_turn set m n y ≡ false → Steps set m n Locking (late set m n) y [] x → HasEnded set m n x.progress.state
+  ends_by y x e none s =
+      let after = wholes set m n (late set m n) y x (all_late set m n) s e in
+      let parts = wholes_append set m n (map todo.Drain (below n)) (todo.Word turn.Clerk ∷ []) after.0 x.progress after.2 in
+      late_ends y.progress after.0 parts.0 x.progress (subst (λ (z : RunState). any_turn set m n z ≡ false) e none) after.1 (drains set m n after.0 parts.0 parts.1)
+      (only set m n (Clerked set m n true) parts.0 parts.2.0 x.progress parts.2.1 parts.2.2)
+
+pub ends_law : WholeRunsEnd
+ends_law set m n style turns opening x s =
+    let (y, peeked, none, last) = ends_in set m n style turns opening x s in
+    (steps_still set m n (late set m n) [] y x last peeked, ends_by set m n y x peeked none last)
+
+module _ (set : Setting) (m n : ℕ) where
+  pub whole_over : (style : Style) (turns : List Turn) (opening : Core) (K : List (Act Txn)) (x : RunState) → Invariant set K (state_of x) → set.width ≡ n → ((k : ℕ) → set.worker_of k < m) → IsBeyond set m n (state_of x) → AreShort set m n (state_of x) →
+      IsWhole set m n style turns opening x → IsOver n (state_of x)
+  whole_over style turns opening K x inv width small beyond short r = record {
     rests = rests;
-    persisted = λ j lt going. nothing_waits K P.state inv width small beyond short j lt rests (settled j lt going);
+    persisted = λ j lt going. nothing_waits set m n K (state_of x) inv width small beyond short j lt rests (record { gathered = (ended.gathered j lt going).0; persisted = (ended.gathered j lt going).1 });
     told = λ w. elim (cases_lt w m) [
-      | inl lt ↦ none_filtered (λ (k : Ticket). covers P.state.plv k.lv) (P.state.outboxes w).pending (all_cleared w (below m) r.flushed P (inl (member_below w m lt)) r.clerk)
-      | inr le ↦ ap (filter (λ (k : Ticket). covers P.state.plv k.lv)) (beyond.pending w le)
+      | inl lt ↦ none_filtered set m n (λ (k : Ticket). covers (state_of x).plv k.lv) ((state_of x).outboxes w).pending (ended.told w lt)
+      | inr le ↦ ap (filter (λ (k : Ticket). covers (state_of x).plv k.lv)) (beyond.pending w le)
     ];
-    done = λ going w. (let none = any_none (λ j. is_some (r.alone.state.streams j).stop) n (λ j lt. ap is_some (before_managers j (before_clerk j (going j lt)))) in
-        elim (cases_lt w m) [
-          | inl lt ↦ (ap (λ (f : ℕ → Worker). (f w).waiting) same ∙ over.rest.waiting none w lt, ap (λ (f : ℕ → Worker). (f w).left) same ∙ done_left r.alone.state over none w lt)
-          | inr le ↦ (beyond.waiting w le, beyond.left w le)
-        ]);
+    done = λ going w. elim (cases_lt w m) [
+      | inl lt ↦ ended.done (any_none (λ j. is_some ((state_of x).streams j).stop) n (λ j less. ap is_some (going j less))) w lt
+      | inr le ↦ (beyond.waiting w le, beyond.left w le)
+    ];
   }
     where
-      over : NoneOver r.alone.state
-      over = left_end true r.rounds r.alone refl (rests_all r.rounds.state (rounds_end true r.named r.rounds refl r.in_rounds)) r.left_over
+      ended : HasEnded set m n (state_of x)
+      ended = (ends_law set m n style turns opening x r).1
 
-      clerk_keeps : (Q : Core → Core → Type 0) → ((s : Core) → Q s s) → ((s t u : Core) → Q s t → Q t u → Q s u) → (allows : Event → Type 0) → ((e : Event) (s s' : Core) (new : List (Act Txn)) → allows e → Leads set e s s' new → Q s s') →
-          ((w : ℕ) (v : List ℕ) → allows (Ack w v)) → Q r.flushed.state P.state
-      clerk_keeps Q none on allows leads acks = each_keeps Q none on allows leads (λ b w. Cleared set m n w b) (below m) (λ w A B q k. cleared_keeps Q none on allows leads acks w true A B k) r.flushed P r.clerk
-
-      same : P.state.workers ≡ r.alone.state.workers
-      same =
-          clerk_keeps (λ s s'. s'.workers ≡ s.workers) (λ s. refl) (λ s t u a b. b ∙ a) IsElsewhere (elsewhere set) (λ w v. tt)
-          ∙ each_keeps (λ s s'. s'.workers ≡ s.workers) (λ s. refl) (λ s t u a b. b ∙ a) IsElsewhere (elsewhere set) (λ b i. Idled set m n i b) (below n)
-          (λ i A B q k. idled_keep (λ s s'. s'.workers ≡ s.workers) (λ s. refl) (λ s t u a b. b ∙ a) IsElsewhere (elsewhere set) i tt (λ u. tt) (λ u. tt) true A B k) r.alone r.flushed r.managers
-
-      rests : (w : ℕ) → (P.state.workers w).hand ≡ None
+      rests : (w : ℕ) → ((state_of x).workers w).hand ≡ None
       rests w = elim (cases_lt w m) [
-        | inl lt ↦ ap (λ (f : ℕ → Worker). (f w).hand) same ∙ over.rest.hands w lt
+        | inl lt ↦ ended.hands w lt
         | inr le ↦ beyond.hands w le
       ]
-
-      before_clerk : (j : ℕ) → (P.state.streams j).stop ≡ None → (r.flushed.state.streams j).stop ≡ None
-      before_clerk j e = clerk_keeps (WasGoing j) (λ s q. q) (λ s t u a b q. a (b q)) IsLate (was_going j) (λ w v. tt) e
-
-      before_managers : (j : ℕ) → (r.flushed.state.streams j).stop ≡ None → (r.alone.state.streams j).stop ≡ None
-      before_managers j e = each_keeps (WasGoing j) (λ s q. q) (λ s t u a b q. a (b q)) IsLate (was_going j) (λ b i. Idled set m n i b) (below n)
-          (λ i A B q k. idled_keep (WasGoing j) (λ s q. q) (λ s t u a b q. a (b q)) IsLate (was_going j) i tt (λ u. tt) (λ u. tt) true A B k) r.alone r.flushed r.managers e
-
-      settled : (j : ℕ) → j < n → (P.state.streams j).stop ≡ None → Settled j P.state
-      settled j lt going = settled_apart j r.flushed.state P.state (clerk_keeps (Apart j) (apart_none j) (apart_on j) (IsApart j) (apart_event j) (λ w v. tt))
-          (all_settled j lt (below n) r.alone r.flushed (inl (member_below j n lt)) (before_clerk j going) r.managers)

@@ -13,7 +13,8 @@ use Rattle.tau_core.specs.declared.state.Load.{Load}
 use Rattle.tau_core.specs.State.{Plain}
 use Rattle.tau_core.specs.View.{Hidden, core_of, setting_of, worker_at}
 use Rattle.tau_core.specs.Stands.{Stands, Stood}
-use Rattle.tau_run.specs.Turns.{Progress, Worked, Managed, has_work, is_going, is_raised, is_empty}
+use Rattle.tau_run.specs.Turns.{Progress, is_going, is_raised, is_empty}
+use Rattle.tau_step.specs.TurnParts.{Worked, Managed, has_work}
 use Rattle.tau_step.specs.declared.run.Run.{Run}
 use Rattle.tau_step.specs.Acting.{WorkerTurned}
 use Rattle.tau_step.specs.Along.{Quiet}

@@ -1,6 +1,6 @@
 -- Turns in which nothing is flushed.
-use Rattle.std.proofs.Common.{ℕ, ◌≡◌, ◌&&◌, Bool, true, false, List, [], ◌∷◌, ◌++◌, map, length, refl, ap, ◌∙◌, ◌+◌, ◌-◌, ◌^◌}
-use Rattle.std.specs.Prelude.{nat_lt, Ok}
+use Rattle.std.proofs.Common.{ℕ, ◌≡◌, ◌&&◌, Bool, true, false, List, [], ◌∷◌, ◌++◌, length, refl, ap, ◌∙◌, ◌+◌, ◌-◌, ◌^◌}
+use Rattle.std.specs.Prelude.{nat_lt}
 use Rattle.std.proofs.lemmas.List.{append-nil}
 use Rattle.std.proofs.lemmas.List.Concat.{flat_map-append}
 use Rattle.tau_base.specs.declared.limits.TheConstants.{SHARDS}
@@ -10,14 +10,12 @@ use Rattle.tau_text.specs.declared.load.Turn.TheVariants as turn
 use Rattle.tau_core.specs.declared.state.Load.{Load}
 use Rattle.tau_core.specs.View.{setting_of}
 use Rattle.tau_run.specs.Run.{below}
-use Rattle.tau_run.specs.Turns.{Progress, Stays, IsOwn, Goes, has_work, is_going, Worked, Cleared, OneByOne, Turned, DropOf, AnchoredPart, Alone, LeftOver}
+use Rattle.tau_run.specs.Turns.{Progress, Stays, IsOwn, Goes, is_going}
+use Rattle.tau_step.specs.TurnParts.{has_work, Worked, Cleared, OneByOne, DropOf, AnchoredPart}
+use Rattle.tau_step.specs.Along.{Silent}
 use Rattle.tau_step.specs.Counts.{flushed_by_event, flushed_in}
-use Rattle.tau_step.specs.Rounding.{turned, clerked, rounded_by, ran_left_over}
+use Rattle.tau_step.specs.Rounding.{turned, clerked}
 use Rattle.tau_step.proofs.Turning.{if_either}
-
--- the flushes are those of before
-abbrev pub Silent : Progress → Progress → Type 0
-Silent P P' = flushed_in P'.events ≡ flushed_in P.events
 
 -- one event more
 pub flushed_more : (es : List Event) (e : Event) → flushed_in (es ++ e ∷ []) ≡ flushed_in es ++ flushed_by_event e
@@ -51,12 +49,8 @@ module _ (set : Setting) (m n : ℕ) where
   pub goes_silent : (e : Event) (P P' : Progress) → flushed_by_event e ≡ [] → Goes set m n e P P' → Silent P P'
   goes_silent e P P' none g = goes_flushes e P P' g ∙ ap (λ (xs : List ℕ). flushed_in P.events ++ xs) none ∙ append-nil (flushed_in P.events)
 
-  worked_silent : (w : ℕ) (P P' : Progress) → Worked set m n w P P' → Silent P P'
+  pub worked_silent : (w : ℕ) (P P' : Progress) → Worked set m n w P P' → Silent P P'
   worked_silent w P P' h = if_either (has_work set m n P.state w) _ _ (Silent P P') h (λ x. goes_silent x.0 P P' (own_silent w x.0 x.1) x.2) (λ x. stays_silent P P' x)
-
-  workers_silent : (ws : List ℕ) (P P' : Progress) → OneByOne set m n (Turned set m n) true (map turn.Worker ws) P P' → Silent P P'
-  workers_silent [] P P' h = stays_silent P P' h
-  workers_silent (w ∷ ws) P P' h = workers_silent ws h.0 P' h.2 ∙ worked_silent w P h.0 h.1
 
   cleared_silent : (w : ℕ) (whole : Bool) (P P' : Progress) → Cleared set m n w whole P P' → Silent P P'
   cleared_silent w whole P P' (Cleared.none e) = refl
@@ -74,17 +68,6 @@ module _ (set : Setting) (m n : ℕ) where
   anchored_silent : (j : ℕ) (P P' : Progress) → AnchoredPart set m n true j P P' → Silent P P'
   anchored_silent j P P' h = if_either (is_going set m n P.state j && nat_lt (set.anchored j + length (P.state.streams j).anchors) (2 ^ 32 - 1)) _ _ (Silent P P') h
       (λ x. goes_silent (PlaceAnchor j P.state.plv) P P' refl x) (λ x. stays_silent P P' x)
-
-  alone_silent : (w : ℕ) (whole : Bool) (P P' : Progress) → Alone set m n w whole P P' → Silent P P'
-  alone_silent w whole P P' (Alone.over e) = refl
-  alone_silent w whole P P' (Alone.again {q = R} e h more) = alone_silent w whole R P' more ∙ worked_silent w P R h
-  alone_silent w whole P P' Alone.cut = refl
-
-  left_silent : (whole : Bool) (P P' : Progress) → LeftOver set m n whole P P' → Silent P P'
-  left_silent whole P P' (LeftOver.over e) = refl
-  left_silent whole P P' (LeftOver.again {a = A} {b = B} w e lt g alone more) = left_silent whole B P' more ∙ alone_silent w true A B alone ∙ goes_silent (Resume w) P A refl g
-  left_silent whole P P' (LeftOver.cut {a = A} w e lt g alone) = alone_silent w false A P' alone ∙ goes_silent (Resume w) P A refl g
-  left_silent whole P P' LeftOver.stop = refl
 
 pub false_not : {A : Type 0} → false ≡ true → A
 false_not e = absurd (let bad : false ≡ true = e in cc)
@@ -106,9 +89,3 @@ removal_silent false l P P' e h = false_not e
 pub clerked_silent : (whole : Bool) (l : Load) (P P' : Progress) → whole ≡ true → clerked whole l P P' → Silent P P'
 clerked_silent true l P P' e h = passed_silent (setting_of l) l.workers l.streams (below l.workers) P P' h
 clerked_silent false l P P' e h = false_not e
-
-pub rounded_silent : (any whole : Bool) (l : Load) (P P' : Progress) → whole ≡ true → rounded_by (Ok any) whole l P P' → Silent P P'
-rounded_silent any whole l P P' e h = workers_silent (setting_of l) l.workers l.streams (below l.workers) P P' h.turns
-
-pub left_over_silent : (whole : Bool) (l : Load) (P P' : Progress) → whole ≡ true → ran_left_over whole l P P' → Silent P P'
-left_over_silent whole l P P' e h = left_silent (setting_of l) l.workers l.streams whole P P' h.turns

@@ -1,5 +1,5 @@
 -- The parts of a run, one after another.
-use Rattle.std.proofs.Common.{ℕ, ◌≡◌, Bool, true, false, inl, inr, List, refl, sym, subst}
+use Rattle.std.proofs.Common.{ℕ, ◌≡◌, Bool, true, false, List, ◌∷◌, map, refl, sym, subst}
 use Rattle.std.specs.Prelude.{[]}
 use Rattle.tau_disk.specs.declared.disk.Disk.{Ghosts}
 use Rattle.tau_stream.specs.declared.writer.Writer.{Writer}
@@ -9,8 +9,9 @@ use Rattle.tau_run.specs.Turns.{Progress}
 use Rattle.tau_step.specs.declared.run.Run.{Run}
 use Rattle.tau_step.specs.Along.{Quiet}
 use Rattle.tau_step.specs.RunEffects.{IsOn, Works, Moves}
-use Rattle.tau_step.specs.Rounding.{turned_all, in_rounds, ran_left_over, drained, ran_last, ran_behind, ran_all}
-use Rattle.tau_step.proofs.Silent.{left_over_silent}
+use Rattle.tau_run.specs.Schedule.{Word, Rounds, LeftOver}
+use Rattle.tau_step.specs.Rounding.{last_todos, turned_all, in_rounds, ran_left_over, drained, ran_last, ran_behind, ran_all}
+use Rattle.tau_step.proofs.Scheduled.{left_all, ran_both, ran_short}
 use Rattle.tau_step.proofs.EffectsInTurn.{works_manages, manages_moves, moves_on, moves_as, moves_none}
 
 left_quiet : (whole : Bool) (l : Load) (P P' : Progress) → ran_left_over whole l P P' → Quiet P.state P'.state
@@ -18,35 +19,33 @@ left_quiet whole l P P' q = q.quiet
 
 module _ {D : Type 0} {G : Ghosts D} (seen_now : (d : D) → G.tells → G.may_leave d (G.seen d)) (hears : Type 0) where
   left_moves : (whole : Bool) (old new : Run) (ws : List (Writer D G)) (held : List ℕ) (faults : ℕ) → IsOn ws old → Works ran_left_over whole old new → Moves ran_left_over whole old new ws ws hears held held faults faults
-  left_moves whole old new ws held faults on x = manages_moves seen_now hears ran_left_over whole old new ws ws held faults (works_manages seen_now ran_left_over whole old new ws on (left_quiet whole) (left_over_silent whole) x)
+  left_moves whole old new ws held faults on x = manages_moves seen_now hears ran_left_over whole old new ws ws held faults (works_manages seen_now ran_left_over whole old new ws on (left_quiet whole) (λ l P P' e q. q.silent) x)
 
   pub left_on : (old new : Run) (ws : List (Writer D G)) (held : List ℕ) (faults : ℕ) → IsOn ws old → Works ran_left_over true old new → IsOn ws new
   left_on old new ws held faults on x = (left_moves true old new ws held faults on x).on refl
 
   pub last_drained : (whole : Bool) (old mid new : Run) (ws ws' : List (Writer D G)) (held held' : List ℕ) (faults faults' : ℕ) → IsOn ws old → Works ran_left_over true old mid → Moves drained whole mid new ws ws' hears held held' faults faults' → Moves ran_last whole old new ws ws' hears held held' faults faults'
-  last_drained true old mid new ws ws' held held' faults faults' on x y =
-      moves_on seen_now hears ran_left_over drained ran_last true old mid new ws ws ws' held held held' faults faults faults' (λ l P Q P' p q. (Q, p, q)) (left_moves true old mid ws held faults on x) y
-  last_drained false old mid new ws ws' held held' faults faults' on x y =
-      moves_on seen_now hears ran_left_over drained ran_last false old mid new ws ws ws' held held held' faults faults faults' (λ l P Q P' p q. inr (Q, p, q)) (left_moves true old mid ws held faults on x) y
+  last_drained whole old mid new ws ws' held held' faults faults' on x y =
+      moves_on seen_now hears ran_left_over drained ran_last whole old mid new ws ws ws' held held held' faults faults faults' (λ l P Q P' p q. ran_both (LeftOver ∷ []) (last_todos l) whole l P Q P' p.turns q) (left_moves true old mid ws held faults on x) y
 
   pub last_short : (old new : Run) (ws : List (Writer D G)) (held : List ℕ) (faults : ℕ) → IsOn ws old → Works ran_left_over false old new → Moves ran_last false old new ws ws hears held held faults faults
-  last_short old new ws held faults on x = moves_as seen_now hears ran_left_over ran_last false old new ws ws held held faults faults (λ l P P' p. inl p) (left_moves false old new ws held faults on x)
+  last_short old new ws held faults on x = moves_as seen_now hears ran_left_over ran_last false old new ws ws held held faults faults (λ l P P' p. ran_short (LeftOver ∷ []) (last_todos l) l P P' p.turns) (left_moves false old new ws held faults on x)
 
   pub behind_last : (whole : Bool) (old mid new : Run) (ws ms ws' : List (Writer D G)) (held held' held'' : List ℕ) (faults faults' faults'' : ℕ) → Moves in_rounds true old mid ws ms hears held held' faults faults' → Moves ran_last whole mid new ms ws' hears held' held'' faults' faults'' → Moves ran_behind whole old new ws ws' hears held held'' faults faults''
-  behind_last true old mid new ws ms ws' held held' held'' faults faults' faults'' x y = moves_on seen_now hears in_rounds ran_last ran_behind true old mid new ws ms ws' held held' held'' faults faults' faults'' (λ l P Q P' p q. (Q, p, q)) x y
-  behind_last false old mid new ws ms ws' held held' held'' faults faults' faults'' x y = moves_on seen_now hears in_rounds ran_last ran_behind false old mid new ws ms ws' held held' held'' faults faults' faults'' (λ l P Q P' p q. inr (Q, p, q)) x y
+  behind_last whole old mid new ws ms ws' held held' held'' faults faults' faults'' x y = moves_on seen_now hears in_rounds ran_last ran_behind whole old mid new ws ms ws' held held' held'' faults faults' faults''
+      (λ l P Q P' p q. ran_both (Rounds ∷ []) (LeftOver ∷ last_todos l) whole l P Q P' p q) x y
 
   pub behind_short : (old new : Run) (ws ws' : List (Writer D G)) (held held' : List ℕ) (faults faults' : ℕ) → Moves in_rounds false old new ws ws' hears held held' faults faults' → Moves ran_behind false old new ws ws' hears held held' faults faults'
-  behind_short old new ws ws' held held' faults faults' x = moves_as seen_now hears in_rounds ran_behind false old new ws ws' held held' faults faults' (λ l P P' p. inl p) x
+  behind_short old new ws ws' held held' faults faults' x = moves_as seen_now hears in_rounds ran_behind false old new ws ws' held held' faults faults' (λ l P P' p. ran_short (Rounds ∷ []) (LeftOver ∷ last_todos l) l P P' p) x
 
   module _ (ts : List Turn) where
     pub all_behind : (whole : Bool) (old mid new : Run) (ws ms ws' : List (Writer D G)) (held held' held'' : List ℕ) (faults faults' faults'' : ℕ) → Moves (turned_all ts) true old mid ws ms hears held held' faults faults' → Moves ran_behind whole mid new ms ws' hears held' held'' faults' faults'' → Moves (ran_all ts) whole old new ws ws' hears held held'' faults faults''
-    all_behind true old mid new ws ms ws' held held' held'' faults faults' faults'' x y = moves_on seen_now hears (turned_all ts) ran_behind (ran_all ts) true old mid new ws ms ws' held held' held'' faults faults' faults'' (λ l P Q P' p q. (Q, p, q)) x y
-    all_behind false old mid new ws ms ws' held held' held'' faults faults' faults'' x y = moves_on seen_now hears (turned_all ts) ran_behind (ran_all ts) false old mid new ws ms ws' held held' held'' faults faults' faults'' (λ l P Q P' p q. inr (Q, p, q)) x y
+    all_behind whole old mid new ws ms ws' held held' held'' faults faults' faults'' x y = moves_on seen_now hears (turned_all ts) ran_behind (ran_all ts) whole old mid new ws ms ws' held held' held'' faults faults' faults''
+        (λ l P Q P' p q. ran_both (map Word ts) (Rounds ∷ LeftOver ∷ last_todos l) whole l P Q P' p q) x y
 
     pub named_none : (run : Run) (ws : List (Writer D G)) (held : List ℕ) (faults : ℕ) → ts ≡ [] → IsOn ws run → Moves (turned_all ts) true run run ws ws hears held held faults faults
     named_none run ws held faults e on = subst (λ (us : List Turn). Moves (turned_all us) true run run ws ws hears held held faults faults) (sym e)
-        (moves_none seen_now hears (turned_all []) run ws held faults on (λ P. refl))
+        (moves_none seen_now hears (turned_all []) run ws held faults on (λ P. left_all [] run.core.load P))
 
     pub all_short : (old new : Run) (ws ws' : List (Writer D G)) (held held' : List ℕ) (faults faults' : ℕ) → Moves (turned_all ts) false old new ws ws' hears held held' faults faults' → Moves (ran_all ts) false old new ws ws' hears held held' faults faults'
-    all_short old new ws ws' held held' faults faults' x = moves_as seen_now hears (turned_all ts) (ran_all ts) false old new ws ws' held held' faults faults' (λ l P P' p. inl p) x
+    all_short old new ws ws' held held' faults faults' x = moves_as seen_now hears (turned_all ts) (ran_all ts) false old new ws ws' held held' faults faults' (λ l P P' p. ran_short (map Word ts) (Rounds ∷ LeftOver ∷ last_todos l) l P P' p) x

@@ -2,7 +2,8 @@
 use Rattle.std.proofs.Common.{ℕ, zero, suc, ◌<◌, ◌≡◌, true, inl, inr, refl, sym, ap, subst, arith}
 use Rattle.std.proofs.lemmas.Bool.{cases_eq}
 use Rattle.tau_machine.specs.State.{Setting, Core}
-use Rattle.tau_run.specs.Turns.{Progress, Worked, has_work}
+use Rattle.tau_run.specs.Turns.{Progress}
+use Rattle.tau_step.specs.TurnParts.{Worked, has_work}
 use Rattle.tau_step.specs.Remains.{sum_below, worker_left}
 use Rattle.tau_step.proofs.Falling.{HasTries, own_falls}
 use Rattle.tau_step.proofs.Idling.{if_then}

@@ -7,7 +7,8 @@ use Rattle.tau_machine.specs.Hands.{Txn}
 use Rattle.tau_machine.specs.State.{Setting, Core}
 use Rattle.tau_machine.specs.Events.{Event, Lock, Busy, Quit, Commit, Post, Free, FirstFree, Done, DoneReading, Drop, Gather, PlaceAnchor, Persist, Ack, Stop, Resume, Leads}
 use Rattle.tau_run.specs.Run.{below}
-use Rattle.tau_run.specs.Turns.{Progress, Stays, IfSo, IsOwn, Goes, has_work, is_going, Worked, Flushed, Cleared, OneByOne, Clerked, DropOf, ManagedPart, WorkedPart, AnchoredPart}
+use Rattle.tau_run.specs.Turns.{Progress, Stays, IfSo, IsOwn, Goes, is_going, Flushed}
+use Rattle.tau_step.specs.TurnParts.{has_work, Worked, Cleared, OneByOne, Clerked, DropOf, ManagedPart, WorkedPart, AnchoredPart}
 use Rattle.tau_step.specs.Along.{Grows, SameAt, Spares}
 use Rattle.tau_step.proofs.Growing.{grows_none, grows_on, grows, same_none, same_on, spared}
 

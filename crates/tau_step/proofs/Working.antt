@@ -52,7 +52,7 @@ blocks_other u w b e = elim (cases_eq u w) [
 ]
 
 -- the holder that the core names is another worker with the key that is wanted
-barred : (p : Plain) (h : Hidden) (w holder : ℕ) → IsBarred p h w holder → run.IsBarred (setting_of p.load) p.load.workers p.load.streams w (core_of p h)
+pub barred : (p : Plain) (h : Hidden) (w holder : ℕ) → IsBarred p h w holder → run.IsBarred (setting_of p.load) p.load.workers p.load.streams w (core_of p h)
 barred p h w holder (key, mode, wants, lowest) =
     let entry = entry_in ((core_of p h).shards (shard_number key)) key in
     let other = blocks_other holder w (against mode (entry.holders holder)) lowest.0 in

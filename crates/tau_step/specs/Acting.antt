@@ -13,7 +13,8 @@ use Rattle.tau_core.specs.Phases.{hand_phase}
 use Rattle.tau_core.specs.declared.event.Phase.TheVariants.{Quitting}
 use Rattle.tau_core.specs.Stands.{Stands}
 use Rattle.tau_core.specs.Steps.{Steps}
-use Rattle.tau_run.specs.Turns.{is_raised, has_work}
+use Rattle.tau_run.specs.Turns.{is_raised}
+use Rattle.tau_step.specs.TurnParts.{has_work}
 use Rattle.tau_step.specs.Progressed.{Comes, stays, works}
 
 -- what an outcome means for a turn: whether anything was done, or out of memory

@@ -18,7 +18,7 @@ use Rattle.tau_core.specs.Stands.{Stands}
 use Rattle.tau_run.specs.StopsLeave.{HasFront, HasSomeFront, NamesLowest, stops_in}
 use Rattle.tau_run.specs.Turns.{Progress}
 use Rattle.tau_run.specs.Heard.{Heard}
-use Rattle.tau_step.specs.Counts.{CountsTo}
+use Rattle.tau_step.specs.Counts.{CountsTo, flushed_in}
 use Rattle.tau_step.specs.Keeping.{IsKept}
 use Rattle.tau_step.specs.Progressed.{progress}
 
@@ -33,6 +33,10 @@ pub record SameAt (i : ℕ) (s s' : Core) : Type 0 where
   pub stop : (s'.streams i).stop ≡ (s.streams i).stop
   pub gathered : slice_index s'.gathered i ≡ slice_index s.gathered i
   pub plv : slice_index s'.plv i ≡ slice_index s.plv i
+
+-- the flushes are those of before
+abbrev pub Silent : Progress → Progress → Type 0
+Silent P P' = flushed_in P'.events ≡ flushed_in P.events
 
 -- so it is of all streams, which may grow
 pub record Quiet (s s' : Core) : Type 0 where

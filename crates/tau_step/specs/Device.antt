@@ -7,6 +7,7 @@ use Rattle.tau_machine.specs.Events.{Event}
 use Rattle.tau_text.specs.declared.load.Workload.{Workload}
 use Rattle.tau_core.specs.declared.state.Load.{Load}
 use Rattle.tau_open.specs.Outside.{calls_to_make}
+use Rattle.tau_occ.specs.declared.style.Style.TheVariants.{Locking}
 use Rattle.tau_run.specs.Run.{Run, below}
 use Rattle.tau_run.specs.RunFacts.{by_turns, IsCoreRun}
 use Rattle.tau_run.specs.Start.{fresh_start}
@@ -52,7 +53,7 @@ device_calls n flushes = below n ++ flat_map (replicate calls_to_make) (below n)
 pub record IsFlushOrder (n m : ℕ) (mode : LogMode) (load : Workload) (flushes : List ℕ) : Type 0 where
   pub run : Run
   pub begins : run.start ≡ fresh_start n
-  pub core : IsCoreRun (by_turns n m load true) n m mode load (λ j. None) run
+  pub core : IsCoreRun (by_turns Locking n m load true) n m mode load (λ j. None) run
   pub flushes_are : flushes ≡ flushed_in core.progress.events
 
 -- the stream of each disk call, in order, of that run

@@ -16,7 +16,8 @@ use Rattle.tau_core.specs.State.{Plain}
 use Rattle.tau_core.specs.View.{Hidden, setting_of, stop_in, core_of}
 use Rattle.tau_core.specs.Stands.{Stands, anchors_at}
 use Rattle.tau_core.specs.Pieces.{Spelled}
-use Rattle.tau_run.specs.Turns.{Managed, ManagedPart, Flushed}
+use Rattle.tau_run.specs.Turns.{Flushed}
+use Rattle.tau_step.specs.TurnParts.{Managed, ManagedPart}
 use Rattle.tau_run.specs.StopsLeave.{HasFront, HasSomeFront}
 use Rattle.tau_step.specs.declared.manager.Managing.{Managing}
 use Rattle.tau_step.specs.declared.manager.Managing.TheVariants as did

@@ -6,5 +6,8 @@ pub mod Keeping
 pub mod Along
 pub mod Device
 pub mod Remains
+pub mod TurnParts
 pub mod Rounding
 pub mod RunEffects
+pub mod Optimists
+pub mod RunsEnd

@@ -9,7 +9,8 @@ use Rattle.tau_core.specs.declared.state.Load.{Load}
 use Rattle.tau_core.specs.View.{Hidden, setting_of, core_of}
 use Rattle.tau_core.specs.Stands.{Stands}
 use Rattle.tau_run.specs.Run.{below}
-use Rattle.tau_run.specs.Turns.{Progress, Stays, Worked, Tells, Cleared, Clerked, OneByOne, DropOf, AnchoredPart}
+use Rattle.tau_run.specs.Turns.{Progress, Stays, Tells}
+use Rattle.tau_step.specs.TurnParts.{Worked, Cleared, Clerked, OneByOne, DropOf, AnchoredPart}
 
 -- these events led to the core, these calls committed in this order, and these acknowledgements were told
 abbrev pub progress : Plain → Hidden → List Event → List (Act Txn) → List (ℕ × List ℕ) → Progress

@@ -11,7 +11,8 @@ use Rattle.tau_core.specs.State.{Plain}
 use Rattle.tau_core.specs.View.{Hidden, core_of, setting_of, worker_at}
 use Rattle.tau_core.specs.Opens.{nothing}
 use Rattle.tau_core.specs.Stands.{Stands, Stood}
-use Rattle.tau_run.specs.Turns.{Progress, is_busy}
+use Rattle.tau_run.specs.Turns.{Progress}
+use Rattle.tau_step.specs.TurnParts.{is_busy}
 use Rattle.tau_run.specs.Heard.{Heard}
 use Rattle.tau_step.specs.declared.run.Run.{Run}
 use Rattle.tau_step.specs.Along.{AreKept, IsAlong, Went, WentShort}

@@ -1,5 +1,5 @@
 //! A run: turns of its actors.
-ghost use Rattle.std.specs.Prelude.{ℕ, ◌≡◌, ◌<◌, ◌≤◌, ◌⊎◌, ◌||◌, List, Some, None, true, false, is_ok, Ok, OnOk};
+ghost use Rattle.std.specs.Prelude.{ℕ, ◌≡◌, ◌<◌, ◌≤◌, ◌⊎◌, ◌||◌, ◌∷◌, [], List, Some, None, true, false, is_ok, Ok, OnOk};
 ghost use Rattle.tau_disk.specs.Disk.{Rose};
 ghost use Rattle.tau_model.specs.History.{Act};
 ghost use Rattle.tau_machine.specs.Hands.{Txn};
@@ -8,12 +8,13 @@ ghost use Rattle.tau_core.specs.Opens.{nothing};
 ghost use Rattle.tau_core.specs.Stands.{Stands, Stood};
 ghost use Rattle.tau_core.specs.View.{Hidden, core_of};
 ghost use Rattle.tau_run.specs.RunFacts.{turns_of};
+ghost use Rattle.tau_run.specs.Schedule.{Word};
 ghost use Rattle.tau_run.specs.StopsLeave.{NamesLowest, stops_in};
 ghost use Rattle.tau_run.specs.Heard.{Heard};
 ghost use Rattle.tau_step.specs.Acting.{IsAlone, IsSettling, Settles};
 ghost use Rattle.tau_step.specs.RunEffects.{IsOn, Manages, Moves, Works, calls_over, rests_in, to_flush, total_left};
 ghost use Rattle.tau_step.specs.Progressed.{clerks};
-ghost use Rattle.tau_step.specs.Rounding.{acted_alone, all_idled, all_managed, drained, flushed_by, idled, in_rounds, managed_by, ran_all, ran_behind, ran_last, ran_left_over, rest_of_round, resumed_by, round_by, rounded_by, turned, turned_all, worked_by};
+ghost use Rattle.tau_step.specs.Rounding.{acted_alone, all_idled, all_managed, drained, flushed_by, idled, in_rounds, managed_by, ran_all, ran_behind, ran, ran_last, ran_left_over, rest_of_round, resumed_by, round_by, rounded_by, turned, turned_all, worked_by};
 ghost use Rattle.tau_step.specs.Telling.{Passed};
 
 use crate::clerk::Clerk;
@@ -177,7 +178,7 @@ impl Run {
         turn: Turn,
     ) -> Result<(), NoMemory>
         requires on { IsOn writers.old.items self.old }
-        ensures moves { Moves (turned turn) (is_ok result) self.old self.new writers.old.items writers.new.items K.tells (K.held sink.old) (K.held sink.new) (K.faults sink.old) (K.faults sink.new) }
+        ensures moves { Moves (ran (Word turn ∷ [])) (is_ok result) self.old self.new writers.old.items writers.new.items K.tells (K.held sink.old) (K.held sink.new) (K.faults sink.old) (K.faults sink.new) }
     {
         match turn {
             Turn::Worker(worker) => self.worker_word(worker),

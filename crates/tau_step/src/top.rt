@@ -6,6 +6,7 @@ ghost use Rattle.tau_disk.specs.Disk.{Rose};
 ghost use Rattle.tau_text.specs.Canonical.{declarations_text};
 ghost use Rattle.tau_text.specs.Kept.{AreCalls};
 ghost use Rattle.tau_core.specs.Opens.{Fits, Opened};
+ghost use Rattle.tau_occ.specs.declared.style.Style.TheVariants.{Locking};
 ghost use Rattle.tau_run.specs.Start.{catalogue_of};
 ghost use Rattle.tau_run.specs.Gives.{Gave, GaveFrom, GaveNew};
 ghost use Rattle.tau_run.specs.RunFacts.{by_turns};
@@ -42,9 +43,9 @@ pub fn run_turns<D: Disk, K: Sink>(
     requires calls { AreCalls load.now.declarations.procs load.now.calls }
     requires text { length (declarations_text load.now.declarations) ≤ MAX_CATALOGUE }
     requires fresh { AreNew (format_of mode) (λ j. catalogue_of load.now) writers.old.items }
-    ensures ran { GaveNew (by_turns (length writers.old.items) m load.now) m mode load.now writers.old.items writers.new.items K.tells (K.held sink.old) (K.held sink.new) (Rose (K.faults sink.old) (K.faults sink.new)) result }
+    ensures ran { GaveNew (by_turns Locking (length writers.old.items) m load.now) m mode load.now writers.old.items writers.new.items K.tells (K.held sink.old) (K.held sink.new) (Rose (K.faults sink.old) (K.faults sink.new)) result }
     // Of a run that went to its end, each disk had four calls a flush of its stream, and if it failed those up to the one that did.
-    ensures counted { GaveNew (counting writers.old.items writers.new.items (by_turns (length writers.old.items) m load.now)) m mode load.now writers.old.items writers.new.items K.tells (K.held sink.old) (K.held sink.new) (Rose (K.faults sink.old) (K.faults sink.new)) result }
+    ensures counted { GaveNew (counting writers.old.items writers.new.items (by_turns Locking (length writers.old.items) m load.now)) m mode load.now writers.old.items writers.new.items K.tells (K.held sink.old) (K.held sink.new) (Rose (K.faults sink.old) (K.faults sink.new)) result }
     ensures faults { K.faults sink.old ≤ K.faults sink.new }
     ensures count { length writers.new.items ≡ length writers.old.items }
 {
@@ -69,7 +70,7 @@ pub fn run_turns_from<D: Disk, K: Sink>(
     requires fits { Fits opening }
     requires begun { (bases : ℕ → List ℕ) × IsBegun (format_of mode) bases writers.old.items opening }
     ensures ran { (bases : ℕ → List ℕ) → IsBegun (format_of mode) bases writers.old.items opening →
-        GaveFrom (by_turns (length opening.ends) m load.now) opening bases m mode load.now writers.old.items writers.new.items K.tells (K.held sink.old) (K.held sink.new) (Rose (K.faults sink.old) (K.faults sink.new)) result }
+        GaveFrom (by_turns Locking (length opening.ends) m load.now) opening bases m mode load.now writers.old.items writers.new.items K.tells (K.held sink.old) (K.held sink.new) (Rose (K.faults sink.old) (K.faults sink.new)) result }
     ensures faults { K.faults sink.old ≤ K.faults sink.new }
     ensures count { length writers.new.items ≡ length writers.old.items }
 {
@@ -91,7 +92,7 @@ fn go<D: Disk, K: Sink>(
     requires calls { load.now.calls ≡ core.load.calls }
     requires begun { (bases : ℕ → List ℕ) × IsBegun (format_of core.load.mode) bases writers.old.items core.load.opening }
     ensures ran { (bases : ℕ → List ℕ) → IsBegun (format_of core.load.mode) bases writers.old.items core.load.opening →
-        Gave (counting writers.old.items writers.new.items (by_turns core.load.streams core.load.workers load.now)) bases core.load writers.old.items writers.new.items K.tells (K.held sink.old) (K.held sink.new) (Rose (K.faults sink.old) (K.faults sink.new)) result }
+        Gave (counting writers.old.items writers.new.items (by_turns Locking core.load.streams core.load.workers load.now)) bases core.load writers.old.items writers.new.items K.tells (K.held sink.old) (K.held sink.new) (Rose (K.faults sink.old) (K.faults sink.new)) result }
     ensures faults { K.faults sink.old ≤ K.faults sink.new }
     ensures count { length writers.new.items ≡ length writers.old.items }
 {

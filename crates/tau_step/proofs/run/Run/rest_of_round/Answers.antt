@@ -2,7 +2,7 @@ use Rattle.std.proofs.Common.{refl, sym, true, false, ◌≡◌, ◌∙◌}
 use Rattle.std.specs.Prelude.{Ok, Err}
 use Rattle.std.proofs.lemmas.Result.{err_from_is_err_and}
 use Rattle.tau_step.proofs.EffectsInTurn.{clerk_moves}
-use Rattle.tau_step.proofs.Rounds.{rest_whole, rest_clerk, rest_managers, clerk_total}
+use Rattle.tau_step.proofs.Rounds.{rest_clerk, rest_managers, clerk_total}
 use Rattle.tau_step.proofs.run.Run.rest_of_round.Goals as goal
 
 pub managers_round-requires : goal.managers_round-requires
@@ -16,7 +16,7 @@ clerk-requires-clause-workers g c = (c.in_ok-managers_round.ensures.manages.on r
 
 pub returns-clause-moves : goal.returns-clause-moves
 returns-clause-moves g c =
-    rest_whole g.met.D.Disk.seen_now g.K.Sink.tells c.args.self.now c.managers_round.new.self c.clerk.new.self c.args.writers.now.items c.managers_round.new.writers.items (g.K.Sink.held c.args.sink.now) (g.K.Sink.held c.clerk.new.sink) (g.K.Sink.faults c.args.sink.now) (g.K.Sink.faults c.clerk.new.sink) c.in_ok-managers_round.ensures.manages
+    rest_clerk g.met.D.Disk.seen_now g.K.Sink.tells true c.args.self.now c.managers_round.new.self c.clerk.new.self c.args.writers.now.items c.managers_round.new.writers.items (g.K.Sink.held c.args.sink.now) (g.K.Sink.held c.clerk.new.sink) (g.K.Sink.faults c.args.sink.now) (g.K.Sink.faults c.clerk.new.sink) c.in_ok-managers_round.ensures.manages
     (clerk_moves g.met.D.Disk.seen_now g.K.Sink.tells c.managers_round.new.self c.clerk.new.self c.managers_round.new.writers.items (g.K.Sink.held c.args.sink.now) (g.K.Sink.held c.clerk.new.sink) (g.K.Sink.faults c.args.sink.now) (g.K.Sink.faults c.clerk.new.sink)
     (c.in_ok-managers_round.ensures.manages.on refl) c.clerk.ensures.faults c.clerk.ensures.cause c.clerk.ensures.load c.clerk.ensures.failed c.clerk.ensures.workers c.clerk.ensures.streams c.clerk.ensures.flushes (Unit {0}) (Ok tt) c.in_ok-clerk.ensures.passed c.in_ok-clerk.ensures.heard)
 
@@ -30,7 +30,7 @@ returns-clause-some g c = λ e. (let bad : Ok true ≡ Ok false = e in cc)
 
 pub returns-in_err-clerk-clause-moves : goal.returns-in_err-clerk-clause-moves
 returns-in_err-clerk-clause-moves g c =
-    rw (err_from_is_err_and c.from_residual-in_err-clerk.result c.from_residual-in_err-clerk.ensures.1).1 (rest_clerk g.met.D.Disk.seen_now g.K.Sink.tells c.args.self.now c.managers_round.new.self c.clerk.new.self c.args.writers.now.items c.managers_round.new.writers.items (g.K.Sink.held c.args.sink.now) (g.K.Sink.held c.clerk.new.sink) (g.K.Sink.faults c.args.sink.now) (g.K.Sink.faults c.clerk.new.sink) c.in_ok-managers_round.ensures.manages
+    rw (err_from_is_err_and c.from_residual-in_err-clerk.result c.from_residual-in_err-clerk.ensures.1).1 (rest_clerk g.met.D.Disk.seen_now g.K.Sink.tells false c.args.self.now c.managers_round.new.self c.clerk.new.self c.args.writers.now.items c.managers_round.new.writers.items (g.K.Sink.held c.args.sink.now) (g.K.Sink.held c.clerk.new.sink) (g.K.Sink.faults c.args.sink.now) (g.K.Sink.faults c.clerk.new.sink) c.in_ok-managers_round.ensures.manages
     (clerk_moves g.met.D.Disk.seen_now g.K.Sink.tells c.managers_round.new.self c.clerk.new.self c.managers_round.new.writers.items (g.K.Sink.held c.args.sink.now) (g.K.Sink.held c.clerk.new.sink) (g.K.Sink.faults c.args.sink.now) (g.K.Sink.faults c.clerk.new.sink)
     (c.in_ok-managers_round.ensures.manages.on refl) c.clerk.ensures.faults c.clerk.ensures.cause c.clerk.ensures.load c.clerk.ensures.failed c.clerk.ensures.workers c.clerk.ensures.streams c.clerk.ensures.flushes (Unit {0}) (Err _) c.in_err-clerk.ensures.passed c.in_err-clerk.ensures.heard))
 

@@ -4,8 +4,7 @@ use Rattle.std.proofs.lemmas.Result.{err_from_is_err_and}
 use Rattle.tau_step.specs.RunEffects.{total_left}
 use Rattle.tau_step.specs.Rounding.{rounded_by}
 use Rattle.tau_step.proofs.EffectsInTurn.{lowest_nothing, works_manages}
-use Rattle.tau_step.proofs.Silent.{rounded_silent}
-use Rattle.tau_step.proofs.Rounds.{round_rest, round_over, round_short, round_total, round_rests, rounded_quiet}
+use Rattle.tau_step.proofs.Rounds.{round_rest, round_over, round_short, round_total, round_rests, rounded_quiet, rounded_silent}
 use Rattle.tau_step.proofs.run.Run.round.Goals as goal
 
 pub workers_round-requires-clause-stood : goal.workers_round-requires-clause-stood

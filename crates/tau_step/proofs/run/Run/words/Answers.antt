@@ -1,15 +1,17 @@
-use Rattle.std.proofs.Common.{refl, sym, subst, []}
+use Rattle.std.proofs.Common.{refl, sym, subst, map, arith}
 use Rattle.std.specs.Prelude.{is_ok}
 use Rattle.std.proofs.lemmas.Result.{err_from_is_err_and}
 use Rattle.tau_step.specs.RunEffects.{Moves}
 use Rattle.tau_step.proofs.EffectsInTurn.{moves_none}
-use Rattle.tau_step.proofs.Words.{words_more, words_cut}
+use Rattle.tau_step.proofs.Scheduled.{left_all}
+use Rattle.tau_step.proofs.Words.{words_left, words_more, words_cut, words_end}
+use Rattle.tau_run.specs.Schedule.{Word}
 use Rattle.tau_text.specs.declared.load.Turn.TheVariants as turn
 use Rattle.tau_step.specs.Rounding.{turned_all}
 use Rattle.tau_step.proofs.run.Run.words.Goals as goal
 
 pub loop-turn-init : goal.loop-turn-init
-loop-turn-init g c = record { moves = moves_none g.met.D.Disk.seen_now g.K.Sink.tells (turned_all []) c.args.self.now c.args.writers.now.items (g.K.Sink.held c.args.sink.now) (g.K.Sink.faults c.args.sink.now) c.requires.on (λ P. refl) }
+loop-turn-init g c = record { moves = moves_none g.met.D.Disk.seen_now g.K.Sink.tells (words_left c.args.turns.now 0) c.args.self.now c.args.writers.now.items (g.K.Sink.held c.args.sink.now) (g.K.Sink.faults c.args.sink.now) c.requires.on (λ P. left_all (map Word c.args.turns.now) c.args.self.now.core.load P) }
 
 pub returns-in_err-turn : goal.returns-in_err-turn
 returns-in_err-turn g c = record {
@@ -23,4 +25,10 @@ pub loop-turn-preserved : goal.loop-turn-preserved
 loop-turn-preserved g c = record {
   moves = words_more g.met.D.Disk.seen_now g.K.Sink.tells c.args.turns.now c.loop-turn.turn-index _ (turn.Worker 0) c.loop-turn-test.true refl c.args.self.now c.loop-turn.self c.turn.new.self c.args.writers.now.items c.loop-turn.writers.items c.turn.new.writers.items
       (g.K.Sink.held c.args.sink.now) (g.K.Sink.held c.loop-turn.sink) (g.K.Sink.held c.turn.new.sink) (g.K.Sink.faults c.args.sink.now) (g.K.Sink.faults c.loop-turn.sink) (g.K.Sink.faults c.turn.new.sink) c.loop-turn.invariant.moves c.in_ok-turn.ensures.moves;
+}
+
+pub returns : goal.returns
+returns g c = record {
+  moves = words_end g.met.D.Disk.seen_now g.K.Sink.tells c.args.turns.now c.loop-turn.turn-index (omega (arith, c.loop-turn-test.false)) c.args.self.now c.loop-turn.self c.args.writers.now.items c.loop-turn.writers.items
+      (g.K.Sink.held c.args.sink.now) (g.K.Sink.held c.loop-turn.sink) (g.K.Sink.faults c.args.sink.now) (g.K.Sink.faults c.loop-turn.sink) c.loop-turn.invariant.moves;
 }
