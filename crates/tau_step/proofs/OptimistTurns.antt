@@ -450,6 +450,10 @@ unlocked_by w p p' q seen' lt at_none fit forgot did turned K h es told f g same
       unlocked_turned w p p' K h es told f q seen' lt (at_none K h g) fit same forgot c,
     )
 
+-- a core that stood stands after the turn, on the same workload
+pub stood_after : (w : ℕ) (p p' : Plain) (did : Bool) → Stood p → ((K : List (Act Txn)) (h : Hidden) (es : List machine.Event) (told : List (ℕ × List ℕ)) → Stands p K h → WorkerTurned w p p' K h es told (Ok did)) → Stood p' × (p'.load ≡ p.load)
+stood_after w p p' did (K, h, g) turned = let c = (turned K h [] [] g).1 in ((c.order, c.hidden, c.stands), c.load)
+
 -- a call at a lock has something to do, unless it rests for a stop
 pub works_locked : (p p' : Plain) (w number : ℕ) (key : Key) (mode : Mode) → IsAtLock p w number key mode → w < p.load.workers → (stopped : Bool) → ((h : Hidden) → stopped ≡ raised p h) → (q : PlainPeeker) →
     (stopped ≡ true → (worker_at p w).hand ≡ None → q.seen ≡ [] → ⊥) → (K : List (Act Txn)) (h : Hidden) (es : List machine.Event) (told : List (ℕ × List ℕ)) (f : Peeks) → Stands p K h → f w ≡ q.seen → has_turn_in w p p' K h es told f ≡ true

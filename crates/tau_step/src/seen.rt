@@ -56,6 +56,7 @@ pub fn optimistic_turn(
 
 /// Whether the worker rests and has nothing to do for a stop: no call is in its hand, and it has peeked of none.
 fn rests(core: &Core, peeker: &Peeker, worker: u8, stopped: bool) -> bool
+    requires stood { Stood core.now }
     requires there { worker < core.now.load.workers }
     ensures so { IsTrue result → (stopped ≡ true) × ((worker_at core.now worker).hand ≡ None) × (peeker.now.seen ≡ []) }
     ensures not { IsFalse result → stopped ≡ true → (worker_at core.now worker).hand ≡ None → peeker.now.seen ≡ [] → ⊥ }
@@ -71,6 +72,7 @@ fn rests(core: &Core, peeker: &Peeker, worker: u8, stopped: bool) -> bool
 
 /// Whether the worker has no call in hand.
 fn is_resting(core: &Core, worker: u8) -> bool
+    requires stood { Stood core.now }
     requires there { worker < core.now.load.workers }
     ensures { IsTrue result ↔ ((worker_at core.now worker).hand ≡ None) }
 {
