@@ -114,7 +114,7 @@ module _ (set : Setting) (m n : ℕ) where
 
   -- ---- nobody beyond the workers peeks
 
-  abbrev Beyond : RunState → Type 0
+  abbrev pub Beyond : RunState → Type 0
   Beyond x = (w : ℕ) → m ≤ w → x.peeks w ≡ []
 
   beyond_same : (x y : RunState) → Beyond x → y ≡ x → Beyond y
@@ -155,7 +155,7 @@ module _ (set : Setting) (m n : ℕ) where
   beyond_steps style todos rest x y b (on {todo = t} {todos = ts} {y = a} more d s) = beyond_steps style (more ++ ts) rest a y (beyond_does style t x more a b d) s
 
   -- where no worker has anything to do nothing is peeked
-  none_peeked : (x : RunState) → any_turn set m n x ≡ false → Beyond x → x ≡ still x.progress
+  pub none_peeked : (x : RunState) → any_turn set m n x ≡ false → Beyond x → x ≡ still x.progress
   none_peeked x none b = λ i. record { progress = x.progress; peeks = λ w. one w i }
     where
       one : (w : ℕ) → x.peeks w ≡ []

@@ -514,7 +514,7 @@ module _ (set : Setting) (m n : ℕ) where
   steps_good todos rest x y here g = g
   steps_good todos rest x y (on {todo = t} {todos = ts} {y = a} more d s) g = steps_good (more ++ ts) rest a y s (good_on t ts x more a d g)
 
-  start_fit : (opening : Core) → IsOpening set opening → AllFit (still (begun opening))
+  pub start_fit : (opening : Core) → IsOpening set opening → AllFit (still (begun opening))
   start_fit opening opens w = by (opening.workers w).hand (opens.hands w) refl (opening.workers w).waiting
     where
       wk : Worker
