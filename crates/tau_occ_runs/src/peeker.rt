@@ -46,6 +46,7 @@ fn call_of(proc: u16, args: &[i64]) -> Call {
 fn begin(rt: &impl Abort, peeker: &mut Peeker, procs: &Procs, call: &Call) -> Result<(), Fail> {
     assert!(rt; procs.takes(call));
     peeker.begin(procs, call)?;
+    assert!(rt; peeker.is_empty());
     Ok(())
 }
 
@@ -55,6 +56,7 @@ fn peek(rt: &impl Abort, peeker: &mut Peeker, row: i64, value: Value) -> Result<
     };
     assert_eq!(rt; wanted, key(row));
     peeker.saw(value)?;
+    assert!(rt; !peeker.is_empty());
     Ok(())
 }
 
