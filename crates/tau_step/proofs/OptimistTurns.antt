@@ -317,7 +317,7 @@ unlocked_turned w p p' K h es told f q seen' lt none fit same forgot c = record 
   stands = c.stands;
   load = c.load;
   taken = c.taken;
-  moved = if_known (has_work_in p h w) _ _ (turned_to) c.moved
+  moved = if_known (has_work_in p h w) _ _ (turned_in Optimistic w f (at w seen' f) p.load (progress p h es K told) (progress p' c.hidden c.events c.order told)) c.moved
       (λ works (e, own, goes, newest, busy, lowest). if_yes (has_turn_in w p p' K h es told f) _ _ (sym as_work ∙ works) (inr (
         peeked_all w p K h none es told f fits,
         record {
@@ -343,9 +343,6 @@ unlocked_turned w p p' K h es told f q seen' lt none fit same forgot c = record 
 
     as_work : has_work_in p h w ≡ has_turn_in w p p' K h es told f
     as_work = turns_as_work w p p' K h es told f lt (λ rests. same ∙ unpeeked w p K h none q fit rests)
-
-    abbrev turned_to : Type 0
-    turned_to = turned_in Optimistic w f (at w seen' f) p.load (progress p h es K told) (progress p' c.hidden c.events c.order told)
 
     -- the worker stays as it was
     kept : has_work_in p h w ≡ false → progress p' c.hidden c.events c.order told ≡ progress p h es K told → at w seen' f ≡ f

@@ -1,13 +1,12 @@
+use arrayvec::ArrayVec;
 use std::alloc::Global;
 use std::test::*;
-use tau_base::{LogMode, NoMemory};
+use tau_base::{LogMode, Lv, NoMemory};
 use tau_core::{Core, Opening};
+use tau_model::Tables;
 use tau_occ::Peeker;
 use tau_step::optimistic_turn;
 use tau_text::{Workload, parse_workload};
-use tau_base::Lv;
-use tau_model::Tables;
-use arrayvec::ArrayVec;
 
 fn opening(alloc: Global, end: u64) -> Opening {
     let mut ends = Lv::zero(2);
@@ -24,7 +23,12 @@ fn opening(alloc: Global, end: u64) -> Opening {
     }
 }
 
-fn rounds(core: &mut Core, a: &mut Peeker, b: &mut Peeker, load: &Workload) -> Result<u64, NoMemory> {
+fn rounds(
+    core: &mut Core,
+    a: &mut Peeker,
+    b: &mut Peeker,
+    load: &Workload,
+) -> Result<u64, NoMemory> {
     let mut turns = 0;
     loop {
         let first = optimistic_turn(core, a, load, 0, false)?;

@@ -12,8 +12,7 @@ returns-in-Resting c =
 
 pub returns-in_default : goal.returns-in_default
 returns-in_default c =
-    let (K, h, g) = c.requires.stood in
-    (
+    let (K, h, g) = c.requires.stood in (
       λ e. absurd (let bad : false ≡ true = e in cc),
       λ none. absurd (let held = acts_held c.args.core.now.load.procs (hand_of (core_of c.args.core.now h) c.args.worker) c.next_of.result (sym (c.next_of.ensures K h g)) (λ e. c.in_default.not-Resting (sym e)) in let bad : false ≡ true = sym (ap is_some none) ∙ held in cc),
     )
