@@ -176,7 +176,7 @@ module _ (set : Setting) (m n : ℕ) where
       fits = emptied u _ (settled_fits set.procs set.width (ready set s u) (hand_busy r.hand) (fits_hand set.procs (peeks u) (ready set s u).hand r.hand r.is (fit u own)).0 refl);
       others = λ v other. kept v u other;
     }
-    event_changes (Quit u up) new own (r, no) peeked reads = record {
+    event_changes (Quit u up) new own (r, nobody) peeked reads = record {
       u = u;
       new = _;
       workers = ap (λ (c : Core). c.workers) r.after;
@@ -189,7 +189,7 @@ module _ (set : Setting) (m n : ℕ) where
         steady = ap (λ (b : Bool). b || up) (here_fits u own.0 r.hand r.is).0 ∙ own.1
 
         empty : peeks u ≡ []
-        empty = quit_empty u up new own (r, no)
+        empty = quit_empty u up new own (r, nobody)
     event_changes (Commit u) new own (t, r, _) peeked reads = record {
       u = u;
       new = _;
