@@ -17,7 +17,7 @@ use Rattle.tau_text.specs.declared.load.Turn.TheVariants as turn
 use Rattle.tau_run.specs.Run.{below}
 use Rattle.tau_run.specs.Turns.{begun, is_empty, is_raised, is_going, any_left, round}
 use Rattle.tau_run.specs.Schedule as todo
-use Rattle.tau_run.specs.Schedule.{Todo, RunState, still, Does, Becomes, Acts, TakesTurn, Steps, here, on, IsWhole, todos_of, is_flushed, has_covered, has_turn, any_turn, peeks_after}
+use Rattle.tau_run.specs.Schedule.{Todo, RunState, still, Does, Acts, TakesTurn, Steps, here, on, IsWhole, todos_of, is_flushed, has_covered, has_turn, any_turn, peeks_after}
 use Rattle.tau_run.proofs.Steps.{if_known}
 
 cons_first : (a b : Todo) (xs ys : List Todo) → a ∷ xs ≡ b ∷ ys → a ≡ b

@@ -9,7 +9,7 @@ use Rattle.tau_occ.specs.declared.style.Style.TheVariants.{Locking, Optimistic}
 use Rattle.tau_text.specs.declared.load.Turn.TheVariants as turn
 use Rattle.tau_run.specs.Turns.{Progress, begun, is_going, is_raised, any_left, Goes, Tells, Flushed}
 use Rattle.tau_run.specs.Schedule as todo
-use Rattle.tau_run.specs.Schedule.{Todo, RunState, still, Does, Becomes, Acts, Steps, here, on, TakesTurn, todos_of, IsPart, is_flushed, has_covered, has_turn, any_turn}
+use Rattle.tau_run.specs.Schedule.{Todo, RunState, still, Does, Acts, Steps, here, on, TakesTurn, todos_of, is_flushed, has_covered, has_turn, any_turn}
 use Rattle.tau_run.specs.ScheduleLaws.{TurnsAreARun}
 use Rattle.tau_run.proofs.Led.{IsQuiet, own_keeps}
 use Rattle.tau_run.proofs.Acks.{IsTold, goes_told, tells_told, begun_told}

@@ -10,7 +10,7 @@ use Rattle.tau_base.specs.Vectors.{AtMost, covers}
 use Rattle.tau_block.specs.Image.{HasContent}
 use Rattle.tau_model.specs.History.{Act, Member, Depends, exec, updates}
 use Rattle.tau_machine.specs.Hands.{Txn}
-use Rattle.tau_machine.specs.State.{Setting, Core}
+use Rattle.tau_machine.specs.State.{Core}
 use Rattle.tau_machine.specs.Accounts.{in_worker}
 use Rattle.tau_machine.specs.Events.{Event, Quit}
 use Rattle.tau_machine.specs.Runs as machine
