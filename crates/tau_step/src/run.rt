@@ -20,10 +20,12 @@ ghost use Rattle.tau_step.specs.Telling.{Passed};
 use crate::clerk::Clerk;
 use crate::flushes::Flushes;
 use crate::manager::{Managing, anchor_turn, manager_turn, removal};
+use crate::seen::optimistic_turn;
 use crate::worker::worker_turn;
 use tau_base::NoMemory;
 use tau_core::Core;
 use tau_disk::{Disk, Sink};
+use tau_occ::{Peeker, Style};
 use tau_stream::Writer;
 use tau_text::{Turn, Workload};
 
@@ -64,7 +66,13 @@ fn either(first: bool, second: bool) -> bool
 
 impl Run {
     /// A turn of a worker, and whether it did anything.
-    fn work(&mut self, worker: u8) -> Result<bool, NoMemory>
+    fn work(
+        &mut self,
+        style: Style,
+        load: &Workload,
+        peekers: &mut Vec<Peeker>,
+        worker: u8,
+    ) -> Result<bool, NoMemory>
         requires stood { Stood self.old.core }
         requires there { worker < self.old.core.load.workers }
         requires lowest { NamesLowest self.old.core.load.streams (stops_in (core_of self.old.core nothing)) self.old.failed }
@@ -72,6 +80,21 @@ impl Run {
         ensures fewer { result ≡ Ok true → total_left self.new.core < total_left self.old.core }
         ensures alone { IsAlone worker self.old.core → IsSettling worker self.old.core → Settles worker self.old.core self.new.core }
     {
+        let stopped = self.failed.is_some();
+        match style {
+            Style::Locking => worker_turn(&mut self.core, worker, stopped),
+            Style::Optimistic => optimistic_turn(
+                &mut self.core,
+                &mut peekers[usize::from(worker)],
+                load,
+                worker,
+                stopped,
+            ),
+        }
+    }
+
+    /// A turn of a worker in the style Locking, and whether it did anything.
+    fn work_alone(&mut self, worker: u8) -> Result<bool, NoMemory> {
         worker_turn(&mut self.core, worker, self.failed.is_some())
     }
 
@@ -121,7 +144,13 @@ impl Run {
     }
 
     /// The turn word of a worker, which may not be there.
-    fn worker_word(&mut self, worker: u8) -> Result<(), NoMemory>
+    fn worker_word(
+        &mut self,
+        style: Style,
+        load: &Workload,
+        peekers: &mut Vec<Peeker>,
+        worker: u8,
+    ) -> Result<(), NoMemory>
         requires stood { Stood self.old.core }
         requires workers { self.old.workers ≡ self.old.core.load.workers }
         requires lowest { NamesLowest self.old.core.load.streams (stops_in (core_of self.old.core nothing)) self.old.failed }
@@ -130,7 +159,7 @@ impl Run {
         if worker >= self.workers {
             return Ok(());
         }
-        self.work(worker)?;
+        self.work(style, load, peekers, worker)?;
         Ok(())
     }
 
@@ -173,6 +202,9 @@ impl Run {
     /// One turn word. One whose actor is not there changes nothing.
     fn turn<D: Disk, K: Sink>(
         &mut self,
+        style: Style,
+        load: &Workload,
+        peekers: &mut Vec<Peeker>,
         writers: &mut Vec<Writer<D>>,
         sink: &mut K,
         turn: Turn,
@@ -181,7 +213,7 @@ impl Run {
         ensures moves { Moves (ran (Word turn ∷ [])) (is_ok result) self.old self.new writers.old.items writers.new.items K.tells (K.held sink.old) (K.held sink.new) (K.faults sink.old) (K.faults sink.new) }
     {
         match turn {
-            Turn::Worker(worker) => self.worker_word(worker),
+            Turn::Worker(worker) => self.worker_word(style, load, peekers, worker),
             Turn::Manager(stream) => self.manager_word(writers, stream),
             Turn::Anchor(stream) => self.anchor_word(stream),
             Turn::Clerk => self.clerk(sink),
@@ -195,6 +227,9 @@ impl Run {
     /// The turn words in order.
     pub(crate) fn words<D: Disk, K: Sink>(
         &mut self,
+        style: Style,
+        load: &Workload,
+        peekers: &mut Vec<Peeker>,
         writers: &mut Vec<Writer<D>>,
         sink: &mut K,
         turns: &[Turn],
@@ -203,13 +238,18 @@ impl Run {
         ensures moves { Moves (turned_all turns.now) (is_ok result) self.old self.new writers.old.items writers.new.items K.tells (K.held sink.old) (K.held sink.new) (K.faults sink.old) (K.faults sink.new) }
     {
         for turn in turns {
-            self.turn(writers, sink, *turn)?;
+            self.turn(style, load, peekers, writers, sink, *turn)?;
         }
         Ok(())
     }
 
     /// A turn of each worker, and whether any did anything.
-    fn workers_round(&mut self) -> Result<bool, NoMemory>
+    fn workers_round(
+        &mut self,
+        style: Style,
+        load: &Workload,
+        peekers: &mut Vec<Peeker>,
+    ) -> Result<bool, NoMemory>
         requires stood { Stood self.old.core }
         requires workers { self.old.workers ≡ self.old.core.load.workers }
         requires lowest { NamesLowest self.old.core.load.streams (stops_in (core_of self.old.core nothing)) self.old.failed }
@@ -218,7 +258,7 @@ impl Run {
     {
         let mut any = false;
         for worker in 0..self.workers {
-            let did = self.work(worker)?;
+            let did = self.work(style, load, peekers, worker)?;
             any = either(any, did);
         }
         Ok(any)
@@ -255,6 +295,9 @@ impl Run {
     /// A round of all workers, all managers and the clerk, and whether any worker did anything. Where none did the others do not act.
     fn round<D: Disk, K: Sink>(
         &mut self,
+        style: Style,
+        load: &Workload,
+        peekers: &mut Vec<Peeker>,
         writers: &mut Vec<Writer<D>>,
         sink: &mut K,
     ) -> Result<bool, NoMemory>
@@ -263,7 +306,7 @@ impl Run {
         ensures moves { Moves (round_by result) (is_ok result) self.old self.new writers.old.items writers.new.items K.tells (K.held sink.old) (K.held sink.new) (K.faults sink.old) (K.faults sink.new) }
         ensures fewer { result ≡ Ok true → total_left self.new.core < total_left self.old.core }
     {
-        match self.workers_round()? {
+        match self.workers_round(style, load, peekers)? {
             false => Ok(false),
             true => self.rest_of_round(writers, sink),
         }
@@ -272,6 +315,9 @@ impl Run {
     /// Rounds, until no worker has anything to do.
     pub(crate) fn rounds<D: Disk, K: Sink>(
         &mut self,
+        style: Style,
+        load: &Workload,
+        peekers: &mut Vec<Peeker>,
         writers: &mut Vec<Writer<D>>,
         sink: &mut K,
     ) -> Result<(), NoMemory>
@@ -279,7 +325,7 @@ impl Run {
         ensures moves { Moves in_rounds (is_ok result) self.old self.new writers.old.items writers.new.items K.tells (K.held sink.old) (K.held sink.new) (K.faults sink.old) (K.faults sink.new) }
         ensures rests { OnOk result (rests_in self.new.core) }
     {
-        'rounds: while self.round(writers, sink)? {}
+        'rounds: while self.round(style, load, peekers, writers, sink)? {}
         Ok(())
     }
 
@@ -293,7 +339,7 @@ impl Run {
         ensures works { Works (acted_alone worker) (is_ok result) self.old self.new }
         ensures settles { Settles worker self.old.core self.new.core }
     {
-        'acts: while self.work(worker)? {}
+        'acts: while self.work_alone(worker)? {}
         Ok(())
     }
 
@@ -389,15 +435,17 @@ impl Run {
     /// The turn words, if there are any.
     fn named<D: Disk, K: Sink>(
         &mut self,
+        style: Style,
+        load: &Workload,
+        peekers: &mut Vec<Peeker>,
         writers: &mut Vec<Writer<D>>,
         sink: &mut K,
-        load: &Workload,
     ) -> Result<(), NoMemory>
         requires on { IsOn writers.old.items self.old }
         ensures moves { Moves (turned_all (turns_of load.now)) (is_ok result) self.old self.new writers.old.items writers.new.items K.tells (K.held sink.old) (K.held sink.new) (K.faults sink.old) (K.faults sink.new) }
     {
         match &load.turns {
-            Some(turns) => self.words(writers, sink, turns.as_slice()),
+            Some(turns) => self.words(style, load, peekers, writers, sink, turns.as_slice()),
             None => Ok(()),
         }
     }
@@ -405,27 +453,32 @@ impl Run {
     /// The whole run: the turn words, rounds, the calls left over, and what is to be flushed.
     pub(crate) fn all<D: Disk, K: Sink>(
         &mut self,
+        style: Style,
+        load: &Workload,
+        peekers: &mut Vec<Peeker>,
         writers: &mut Vec<Writer<D>>,
         sink: &mut K,
-        load: &Workload,
     ) -> Result<(), NoMemory>
         requires on { IsOn writers.old.items self.old }
         ensures moves { Moves (ran_all (turns_of load.now)) (is_ok result) self.old self.new writers.old.items writers.new.items K.tells (K.held sink.old) (K.held sink.new) (K.faults sink.old) (K.faults sink.new) }
     {
-        self.named(writers, sink, load)?;
-        self.behind_words(writers, sink)
+        self.named(style, load, peekers, writers, sink)?;
+        self.behind_words(style, load, peekers, writers, sink)
     }
 
     /// What comes after the turn words.
     fn behind_words<D: Disk, K: Sink>(
         &mut self,
+        style: Style,
+        load: &Workload,
+        peekers: &mut Vec<Peeker>,
         writers: &mut Vec<Writer<D>>,
         sink: &mut K,
     ) -> Result<(), NoMemory>
         requires on { IsOn writers.old.items self.old }
         ensures moves { Moves ran_behind (is_ok result) self.old self.new writers.old.items writers.new.items K.tells (K.held sink.old) (K.held sink.new) (K.faults sink.old) (K.faults sink.new) }
     {
-        self.rounds(writers, sink)?;
+        self.rounds(style, load, peekers, writers, sink)?;
         self.behind_rounds(writers, sink)
     }
 

@@ -21,6 +21,7 @@ use std::alloc::Global;
 use tau_base::{LogMode, NoMemory};
 use tau_core::{Core, Opening};
 use tau_disk::{Disk, Sink};
+use tau_occ::{Peeker, Style};
 use tau_report::RunEnd;
 use tau_stream::Writer;
 use tau_text::Workload;
@@ -50,7 +51,7 @@ pub fn run_turns<D: Disk, K: Sink>(
     ensures count { length writers.new.items ≡ length writers.old.items }
 {
     let core = Core::new(alloc, load, writers.len() as u8, m, mode)?;
-    go(alloc, core, load, m, writers, sink)
+    go(alloc, core, load, m, writers, sink, Style::Locking)
 }
 
 /// The same from a given state, on streams that end where it says.
@@ -62,6 +63,7 @@ pub fn run_turns_from<D: Disk, K: Sink>(
     mode: LogMode,
     writers: &mut Vec<Writer<D>>,
     sink: &mut K,
+    style: Style,
 ) -> Result<RunEnd, NoMemory>
     requires low { 1 ≤ m }
     requires high { m ≤ MAX_WORKERS }
@@ -75,7 +77,7 @@ pub fn run_turns_from<D: Disk, K: Sink>(
     ensures count { length writers.new.items ≡ length writers.old.items }
 {
     let core = Core::open(alloc, load, opening, m, mode)?;
-    go(alloc, core, load, m, writers, sink)
+    go(alloc, core, load, m, writers, sink, style)
 }
 
 /// The run itself.
@@ -86,6 +88,7 @@ fn go<D: Disk, K: Sink>(
     m: u8,
     writers: &mut Vec<Writer<D>>,
     sink: &mut K,
+    style: Style,
 ) -> Result<RunEnd, NoMemory>
     requires opened { Opened core.load core }
     requires workers { m ≡ core.load.workers }
@@ -105,6 +108,19 @@ fn go<D: Disk, K: Sink>(
         flushes: Flushes::new(alloc, false),
         body: Vec::new(alloc),
     };
-    run.all(writers, sink, load)?;
+    let mut peekers = peekers_of(alloc, style, m)?;
+    run.all(style, load, &mut peekers, writers, sink)?;
     end_of(alloc, run, load.calls.len())
+}
+
+/// What each worker of a run in this style has peeked, before it begins. In the style Locking none ever peeks.
+pub(crate) fn peekers_of(alloc: Global, style: Style, m: u8) -> Result<Vec<Peeker>, NoMemory> {
+    let mut peekers = Vec::new(alloc);
+    if style == Style::Locking {
+        return Ok(peekers);
+    }
+    for _ in 0..m {
+        peekers.push(Peeker::new(alloc))?;
+    }
+    Ok(peekers)
 }

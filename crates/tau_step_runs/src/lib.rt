@@ -6,4 +6,6 @@ mod optimists;
 #[cfg(test)]
 mod orders;
 #[cfg(test)]
+mod styles;
+#[cfg(test)]
 mod tests;

@@ -12,6 +12,7 @@ use tau_base::{LogMode, Lv, MAX_CATALOGUE};
 use tau_core::Opening;
 use tau_disk::{MemDisk, MemSink};
 use tau_model::Tables;
+use tau_occ::Style;
 use tau_open::open_streams;
 use tau_report::{RunEnd, report_text};
 use tau_step::{run_turns, run_turns_from};
@@ -35,7 +36,7 @@ fn two_disks(alloc: Global) -> Result<Vec<MemDisk>, Fail>
 }
 
 /// Two streams, just created for the workload.
-fn created(alloc: Global, load: &Workload) -> Result<Vec<Writer<MemDisk>>, Fail>
+pub fn created(alloc: Global, load: &Workload) -> Result<Vec<Writer<MemDisk>>, Fail>
     ensures count { IfOk result (λ writers. vec_len writers ≡ 2) }
     ensures text { OnOk result (length (declarations_text load.now.declarations) ≤ MAX_CATALOGUE) }
     ensures fresh { IfOk result (λ writers. AreNew One (λ j. catalogue_of load.now) writers.items) }
@@ -55,7 +56,7 @@ fn created(alloc: Global, load: &Workload) -> Result<Vec<Writer<MemDisk>>, Fail>
 }
 
 /// Two streams that end here, with no rows and no anchors.
-fn opening(alloc: Global, end: u64) -> Opening
+pub fn opening(alloc: Global, end: u64) -> Opening
     requires { end < MAX_LSN }
     ensures rows { result.rows ≡ [] }
     ensures floor { result.floor ≡ 0 ∷ 0 ∷ [] }
@@ -77,7 +78,7 @@ fn opening(alloc: Global, end: u64) -> Opening
 }
 
 /// All that was told.
-fn told(alloc: Global, load: &Workload, end: &RunEnd, sink: &MemSink) -> Result<Vec<u8>, Fail> {
+pub fn told(alloc: Global, load: &Workload, end: &RunEnd, sink: &MemSink) -> Result<Vec<u8>, Fail> {
     let rest = report_text(alloc, &load.declarations, &end.report, end.disk)?;
     let mut text = sink.bytes().to_vec(alloc)?;
     text.extend_from_slice(&rest)?;
@@ -160,6 +161,7 @@ fn from_an_opening(rt: HostRuntime) -> Result<(), Fail> {
         LogMode::Values,
         &mut writers,
         &mut sink,
+        Style::Locking,
     )?;
     assert!(rt; told(alloc, &load, &end, &sink)?.as_slice() == REPORT);
     Ok(())

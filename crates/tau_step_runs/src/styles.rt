@@ -1,0 +1,62 @@
+//! Runs by turns in both styles, against the rows of the papers.
+ghost use Rattle.std.specs.Prelude.{◌≤◌};
+ghost use Rattle.tau_base.specs.declared.limits.TheConstants.{MAX_WORKERS};
+
+use crate::tests::{created, opening, told};
+use std::alloc::Global;
+use std::test::*;
+use tau_base::LogMode;
+use tau_disk::MemSink;
+use tau_occ::Style;
+use tau_step::run_turns_from;
+use tau_text::parse_workload;
+
+/// What a run of so many workers in this style over this text, on two new streams, tells.
+fn told_in(alloc: Global, text: &[u8], m: u8, style: Style) -> Result<Vec<u8>, Fail>
+    requires low { 1 ≤ m }
+    requires high { m ≤ MAX_WORKERS }
+{
+    let load = match parse_workload(alloc, text) {
+        Ok(load) => load,
+        Err(_) => return Err("the text".into()),
+    };
+    let mut writers = match created(alloc, &load) {
+        Ok(writers) => writers,
+        Err(fail) => return Err(fail),
+    };
+    let opening = opening(alloc, writers[0].durable());
+    let mut sink = MemSink::new(alloc, &[])?;
+    let end = run_turns_from(
+        alloc,
+        &load,
+        opening,
+        m,
+        LogMode::Values,
+        &mut writers,
+        &mut sink,
+        style,
+    )?;
+    told(alloc, &load, &end, &sink)
+}
+
+const PEEKED: &[u8] = b"table a\nadd a 1 2\nput a 1 5\nturns w0 w1 w1 w1 w1 w1\n";
+
+// Worker 0 peeked no row, its comparison fails, and it starts again.
+#[test]
+fn a_row_that_differs(rt: HostRuntime) -> Result<(), Fail> {
+    let alloc = rt.alloc();
+    let report: &[u8] =
+        b"ack 2 0,53\nack 1 61,53\nreply 1 int 7\nreply 2 none\norder 2\norder 1\nrow a 1 int 7\nend 0\n";
+    assert!(rt; told_in(alloc, PEEKED, 2, Style::Optimistic)?.as_slice() == report);
+    Ok(())
+}
+
+// Worker 0 holds the row, and worker 1 meets Busy.
+#[test]
+fn a_row_that_is_held(rt: HostRuntime) -> Result<(), Fail> {
+    let alloc = rt.alloc();
+    let report: &[u8] =
+        b"ack 1 53,0\nack 2 53,61\nreply 1 int 2\nreply 2 none\norder 1\norder 2\nrow a 1 int 5\nend 0\n";
+    assert!(rt; told_in(alloc, PEEKED, 2, Style::Locking)?.as_slice() == report);
+    Ok(())
+}
