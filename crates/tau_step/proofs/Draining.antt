@@ -15,16 +15,16 @@ use Rattle.tau_step.specs.declared.manager.Managing.TheVariants as did
 use Rattle.tau_step.specs.declared.run.Run.{Run}
 use Rattle.tau_step.specs.RunEffects.{IsOn, Manages, Moves}
 use Rattle.tau_step.specs.Progressed.{progress}
-use Rattle.tau_step.specs.Rounding.{becomes, managed_by, flushed_by, idled, idled_below, all_idled, clerked, drained}
+use Rattle.tau_step.specs.Rounding.{keeps, managed_by, flushed_by, idled, idled_below, all_idled, clerked, drained}
 use Rattle.tau_step.proofs.RunSteps.{kept_after, went_on}
 use Rattle.tau_step.specs.Device.{noting}
 use Rattle.tau_step.proofs.Silent.{false_not}
 use Rattle.tau_step.proofs.EffectsInTurn.{manages_on, manages_as, manages_none, manages_moves, moves_on, moves_as}
-use Rattle.tau_step.proofs.Scheduled.{left_all, left_on, ran_both, ran_short, ran_next, ran_cut}
+use Rattle.tau_step.proofs.Scheduled.{kept_all, kept_on, kept_both, kept_short, kept_next, kept_cut}
 use Rattle.tau_step.proofs.Words.{word_ran}
 
 abbrev pub idles_so : ℕ → Bool → Load → Progress → Progress → Type 0
-idles_so j whole l P P' = becomes (Drain j ∷ []) (Drain j ∷ []) l P P'
+idles_so j whole l P P' = keeps (Drain j ∷ []) (Drain j ∷ []) true l P P'
 
 module _ {D : Type 0} {G : Ghosts D} (seen_now : (d : D) → G.tells → G.may_leave d (G.seen d)) where
   -- one turn
@@ -38,29 +38,29 @@ module _ {D : Type 0} {G : Ghosts D} (seen_now : (d : D) → G.tells → G.may_l
   failed_as j old new ws ws' x = manages_as seen_now (managed_by j (Ok did.Failed)) (flushed_by j (Ok false)) true old new ws ws' (λ l P P' q. q.1) x
 
   pub short_as : (j : ℕ) (e : NoMemory) (old new : Run) (ws ws' : List (Writer D G)) → Manages (managed_by j (Err e)) false old new ws ws' → Manages (flushed_by j (Err e)) false old new ws ws'
-  short_as j e old new ws ws' x = manages_as seen_now (managed_by j (Err e)) (flushed_by j (Err e)) false old new ws ws' (λ l P P' q. drain_cut (setting_of l) l.workers l.streams j P P' q) x
+  short_as j e old new ws ws' x = manages_as seen_now (managed_by j (Err e)) (flushed_by j (Err e)) false old new ws ws' (λ l P P' q. (λ style f. drain_cut (setting_of l) l.workers l.streams style f j P P' q)) x
 
   -- turns of one manager
   pub idles_none : (j : ℕ) (run : Run) (ws : List (Writer D G)) → IsOn ws run → Manages (idles_so j) true run run ws ws
-  idles_none j run ws on = manages_none seen_now (idles_so j) run ws on (λ P. left_all (Drain j ∷ []) run.core.load P)
+  idles_none j run ws on = manages_none seen_now (idles_so j) run ws on (λ P. kept_all (Drain j ∷ []) run.core.load P)
 
   module _ (j : ℕ) (old mid new : Run) (ws ms ws' : List (Writer D G)) (x : Manages (idles_so j) true old mid ws ms) where
     pub idles_more : Manages (flushed_by j (Ok true)) true mid new ms ws' → Manages (idles_so j) true old new ws ws'
-    idles_more y = manages_on seen_now (idles_so j) (flushed_by j (Ok true)) (idles_so j) true old mid new ws ms ws' (left_on (Drain j ∷ []) (Drain j ∷ []) (Drain j ∷ []) true) x y
+    idles_more y = manages_on seen_now (idles_so j) (flushed_by j (Ok true)) (idles_so j) true old mid new ws ms ws' (kept_on (Drain j ∷ []) (Drain j ∷ []) (Drain j ∷ []) true) x y
 
     pub idles_end : Manages (flushed_by j (Ok false)) true mid new ms ws' → Manages (idled j) true old new ws ws'
-    idles_end y = manages_on seen_now (idles_so j) (flushed_by j (Ok false)) (idled j) true old mid new ws ms ws' (left_on (Drain j ∷ []) (Drain j ∷ []) [] true) x y
+    idles_end y = manages_on seen_now (idles_so j) (flushed_by j (Ok false)) (idled j) true old mid new ws ms ws' (kept_on (Drain j ∷ []) (Drain j ∷ []) [] true) x y
 
     pub idles_cut : (e : NoMemory) → Manages (flushed_by j (Err e)) false mid new ms ws' → Manages (idled j) false old new ws ws'
-    idles_cut e y = manages_on seen_now (idles_so j) (flushed_by j (Err e)) (idled j) false old mid new ws ms ws' (left_on (Drain j ∷ []) (Drain j ∷ []) [] false) x y
+    idles_cut e y = manages_on seen_now (idles_so j) (flushed_by j (Err e)) (idled j) false old mid new ws ms ws' (kept_on (Drain j ∷ []) (Drain j ∷ []) [] false) x y
 
   -- one manager after another
   pub drains_none : (run : Run) (ws : List (Writer D G)) → IsOn ws run → Manages (idled_below 0) true run run ws ws
-  drains_none run ws on = manages_none seen_now (idled_below 0) run ws on (λ P. left_all [] run.core.load P)
+  drains_none run ws on = manages_none seen_now (idled_below 0) run ws on (λ P. kept_all [] run.core.load P)
 
   pub drains_more : (i : ℕ) (old mid new : Run) (ws ms ws' : List (Writer D G)) → Manages (idled_below i) true old mid ws ms → Manages (idled i) true mid new ms ws' → Manages (idled_below (i + 1)) true old new ws ws'
   drains_more i old mid new ws ms ws' x y = manages_on seen_now (idled_below i) (idled i) (idled_below (i + 1)) true old mid new ws ms ws'
-      (ran_next Drain i) x y
+      (kept_next Drain i) x y
 
   pub drains_cut : (i : ℕ) (old mid new : Run) (ws ms ws' : List (Writer D G)) → i < old.core.load.streams → Manages (idled_below i) true old mid ws ms → Manages (idled i) false mid new ms ws' → Manages all_idled false old new ws ws'
   drains_cut i old mid new ws ms ws' lt x y = record {
@@ -89,7 +89,7 @@ module _ {D : Type 0} {G : Ghosts D} (seen_now : (d : D) → G.tells → G.may_l
       cut_at whole l P P' = (Q : Progress) × idled_below i true l P Q × idled i false l Q P'
 
       join : (l : Load) → i < l.streams → (P P' : Progress) → cut_at false l P P' → all_idled false l P P'
-      join l low P P' (Q, p, q) = ran_cut Drain i l.streams low l P Q P' p q
+      join l low P P' (Q, p, q) = kept_cut Drain i l.streams low l P Q P' p q
 
   pub drains_all : (i : ℕ) (old new : Run) (ws ws' : List (Writer D G)) → i ≡ old.core.load.streams → Manages (idled_below i) true old new ws ws' → Manages all_idled true old new ws ws'
   drains_all i old new ws ws' e x = record {
@@ -116,7 +116,7 @@ module _ {D : Type 0} {G : Ghosts D} (seen_now : (d : D) → G.tells → G.may_l
     pub drain_whole : (whole : Bool) (old mid new : Run) (ws ms : List (Writer D G)) (held held' : List ℕ) (faults faults' : ℕ) → Manages all_idled true old mid ws ms → Moves clerked whole mid new ms ms hears held held' faults faults' → Moves drained whole old new ws ms hears held held' faults faults'
     drain_whole whole old mid new ws ms held held' faults faults' x y =
         moves_on seen_now hears all_idled clerked drained whole old mid new ws ms ms held held held' faults faults faults'
-        (λ l P Q P' p q. ran_both (map Drain (below l.streams)) (Word turn.Clerk ∷ []) whole l P Q P' p (word_ran turn.Clerk whole l Q P' q)) (manages_moves seen_now hears all_idled true old mid ws ms held faults x) y
+        (λ l P Q P' p q. kept_both (map Drain (below l.streams)) (Word turn.Clerk ∷ []) whole l P Q P' p (word_ran turn.Clerk whole l Q P' q)) (manages_moves seen_now hears all_idled true old mid ws ms held faults x) y
 
     pub drain_managers : (old new : Run) (ws ws' : List (Writer D G)) (held : List ℕ) (faults : ℕ) → Manages all_idled false old new ws ws' → Moves drained false old new ws ws' hears held held faults faults
-    drain_managers old new ws ws' held faults x = moves_as seen_now hears all_idled drained false old new ws ws' held held faults faults (λ l P P' p. ran_short (map Drain (below l.streams)) (Word turn.Clerk ∷ []) l P P' p) (manages_moves seen_now hears all_idled false old new ws ws' held faults x)
+    drain_managers old new ws ws' held faults x = moves_as seen_now hears all_idled drained false old new ws ws' held held faults faults (λ l P P' p. kept_short (map Drain (below l.streams)) (Word turn.Clerk ∷ []) l P P' p) (manages_moves seen_now hears all_idled false old new ws ws' held faults x)

@@ -36,6 +36,8 @@ mod Fitting
 mod Running
 mod Settling
 mod ManagerRuns
+mod StyleTurns
+mod RoundSteps
 mod Words
 mod Rounds
 mod Draining

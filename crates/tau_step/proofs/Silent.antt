@@ -21,7 +21,7 @@ use Rattle.tau_step.proofs.Turning.{if_either}
 pub flushed_more : (es : List Event) (e : Event) → flushed_in (es ++ e ∷ []) ≡ flushed_in es ++ flushed_by_event e
 flushed_more es e = flat_map-append flushed_by_event es (e ∷ []) ∙ ap (λ (xs : List ℕ). flushed_in es ++ xs) (append-nil (flushed_by_event e))
 
-own_silent : (w : ℕ) (e : Event) → IsOwn w e → flushed_by_event e ≡ []
+pub own_silent : (w : ℕ) (e : Event) → IsOwn w e → flushed_by_event e ≡ []
 own_silent w (Lock u) o = refl
 own_silent w (Busy u) o = refl
 own_silent w (Quit u up) o = refl
