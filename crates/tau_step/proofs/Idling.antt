@@ -6,8 +6,9 @@ use Rattle.tau_machine.specs.Shard.{at}
 use Rattle.tau_machine.specs.State.{Setting, Core, Stream}
 use Rattle.tau_machine.specs.Events.{Gathered, stop, record_first, anchor_first}
 use Rattle.tau_machine.proofs.At.{at_same, at_other}
-use Rattle.tau_occ.specs.declared.style.Style.TheVariants.{Locking}
-use Rattle.tau_run.specs.Schedule.{Drain, Drained, Did, Leaves, Steps, still, on}
+use Rattle.tau_occ.specs.declared.style.Style.{Style}
+use Rattle.tau_run.specs.Schedule.{Drain, Drained, Did, Leaves, Steps, peeked, on}
+use Rattle.tau_step.specs.Optimists.{Peeks}
 use Rattle.tau_step.proofs.ToSteps.{drains, drains_on, drain_failed, drain_idle, drain_on}
 use Rattle.tau_run.specs.Turns.{Progress, IfSo, Gathers, Flushed, is_going}
 use Rattle.tau_step.specs.TurnParts.{Managed, ManagedPart}
@@ -69,6 +70,10 @@ module _ (set : Setting) (m n : ℕ) (j : ℕ) (there : j < n) where
   pub stopped_there : (s : Core) → is_going set m n s j ≡ false → (s.streams j).stop ≡ None → ⊥
   stopped_there s e none = let bad : true ≡ false = sym (going s none) ∙ e in cc
 
+  -- in either style, whatever is peeked, the manager is idle then
+  abbrev kept_drain : Progress → Progress → Type 0
+  kept_drain P P' = (style : Style) (f : Peeks) → Did set m n style (Drain j ∷ []) (peeked P f) (peeked P' f)
+
   abbrev is_flushed : Core → Bool
   is_flushed s = slice_index s.gathered j == slice_index s.plv j
 
@@ -89,14 +94,14 @@ module _ (set : Setting) (m n : ℕ) (j : ℕ) (there : j < n) where
 
   -- it had nothing to flush, or was stopped before
   pub idle_idled : (P P' : Progress) → ((P.state.streams j).stop ≡ None) ⊎ ((x : ℕ) × ((P.state.streams j).stop ≡ Some x)) → ((P.state.streams j).stop ≡ None → (P'.state.streams j).stop ≡ None) →
-      slice_index P'.state.plv j ≡ slice_index P.state.plv j → j < length P.state.plv → Managed set m n j P P' → Did set m n Locking (Drain j ∷ []) (still P) (still P')
-  idle_idled P P' (inr (x, e)) going_on same long h = subst (λ (X : Progress). Did set m n Locking (Drain j ∷ []) (still P) (still X)) (sym (managed_stays P P' x e h)) (drain_failed set m n j P (stopped P.state x e))
+      slice_index P'.state.plv j ≡ slice_index P.state.plv j → j < length P.state.plv → Managed set m n j P P' → kept_drain P P'
+  idle_idled P P' (inr (x, e)) going_on same long h = subst (λ (X : Progress). kept_drain P X) (sym (managed_stays P P' x e h)) (λ style f. drain_failed set m n style f j P (stopped P.state x e))
   idle_idled P P' (inl e) going_on same long h =
       let (Q, gathers, flush) = managed_goes P P' e h in
       let plv = gathered_plv set j P.state Q.state gathers.0.leads.0 in
       elim (cases_Bool (is_flushed Q.state)) [
         | inl all ↦ (let is : P' ≡ Q = if_then (is_flushed Q.state) _ _ all flush in
-            subst (λ (X : Progress). Did set m n Locking (Drain j ∷ []) (still P) (still X)) (sym is) (drain_idle set m n j P Q (going P.state e) gathers all))
+            subst (λ (X : Progress). kept_drain P X) (sym is) (λ style f. drain_idle set m n style f j P Q (going P.state e) gathers all))
         | inr new ↦ elim (if_else (is_flushed Q.state) _ _ new flush) [
           | inl p ↦ (let q = p.leads.0 in
               let set_now = ap (λ (c : Core). slice_index c.plv j) q.after ∙ get_or-set_same Q.state.plv j (slice_index Q.state.gathered j) 0 (let l = ap (length {A = ℕ}) plv in omega (arith, l, long)) in
@@ -112,28 +117,28 @@ module _ (set : Setting) (m n : ℕ) (j : ℕ) (there : j < n) where
       differ a b e f = let bad : true ≡ false = sym (eq-eqb a b f) ∙ e in cc
 
   -- its disk failed
-  pub failed_idled : (P P' : Progress) (x : ℕ) → (P.state.streams j).stop ≡ None → (P'.state.streams j).stop ≡ Some x → Managed set m n j P P' → Did set m n Locking (Drain j ∷ []) (still P) (still P')
+  pub failed_idled : (P P' : Progress) (x : ℕ) → (P.state.streams j).stop ≡ None → (P'.state.streams j).stop ≡ Some x → Managed set m n j P P' → kept_drain P P'
   failed_idled P P' x e f h =
       let (Q, gathers, flush) = managed_goes P P' e h in
       elim (cases_Bool (is_flushed Q.state)) [
         | inl all ↦ (let is : P' ≡ Q = if_then (is_flushed Q.state) _ _ all flush in
             let none = gathered_stop set j j P.state Q.state gathers.0.leads.0 ∙ e in
             absurd (none_some (P'.state.streams j).stop x (ap (λ (X : Progress). (X.state.streams j).stop) is ∙ none) f))
-        | inr new ↦ drain_on set m n j P Q P' P' (going P.state e) gathers new flush (drain_failed set m n j P' (stopped P'.state x f))
+        | inr new ↦ (λ style peeks. drain_on set m n style peeks j P Q P' P' (going P.state e) gathers new flush (drain_failed set m n style peeks j P' (stopped P'.state x f)))
       ]
 
   -- it flushed something
-  pub flushed_on : (P P' : Progress) → (P.state.streams j).stop ≡ None → slice_index P.state.plv j < slice_index P'.state.plv j → Managed set m n j P P' → Leaves set m n Locking (Drain j ∷ []) (Drain j ∷ []) (still P) (still P')
-  flushed_on P P' e less h later rest z s =
+  pub flushed_on : (P P' : Progress) → (P.state.streams j).stop ≡ None → slice_index P.state.plv j < slice_index P'.state.plv j → Managed set m n j P P' → (style : Style) (f : Peeks) → Leaves set m n style (Drain j ∷ []) (Drain j ∷ []) (peeked P f) (peeked P' f)
+  flushed_on P P' e less h style f later rest z s =
       let (Q, gathers, flush) = managed_goes P P' e h in
-      let more : Steps set m n Locking (Drained j ∷ later) (still Q) rest z = (elim (cases_Bool (is_flushed Q.state)) [
+      let more : Steps set m n style (Drained j ∷ later) (peeked Q f) rest z = (elim (cases_Bool (is_flushed Q.state)) [
         | inl all ↦ (let is : P' ≡ Q = if_then (is_flushed Q.state) _ _ all flush in
             let plv = gathered_plv set j P.state Q.state gathers.0.leads.0 in
             let same : slice_index P'.state.plv j ≡ slice_index P.state.plv j = ap (λ (X : Progress). slice_index X.state.plv j) is ∙ ap (λ (v : List ℕ). slice_index v j) plv in
             absurd (omega (arith, less, same)))
-        | inr new ↦ on (Drain j ∷ []) (drains_on set m n j Q P' new flush) s
+        | inr new ↦ on (Drain j ∷ []) (drains_on set m n style f j Q P' new flush) s
       ]) in
-      on (Drained j ∷ []) (drains set m n j P Q (going P.state e) gathers) more
+      on (Drained j ∷ []) (drains set m n style f j P Q (going P.state e) gathers) more
 
   -- the placed end stays
   pub managed_ends : (P P' : Progress) → Managed set m n j P P' → P'.state.ends ≡ P.state.ends

@@ -31,7 +31,7 @@ use Rattle.tau_step.specs.Along.{Quiet}
 use Rattle.tau_step.specs.RunEffects.{Works, calls_over, rests_in}
 use Rattle.tau_step.specs.Progressed.{progress}
 use Rattle.tau_step.specs.Remains.{sum_below}
-use Rattle.tau_step.specs.Rounding.{ActedAlone, RanLeftOver, worked_by, acted_alone, ran_left_over, resumed_by}
+use Rattle.tau_step.specs.Rounding.{ActedAlone, RanLeftOver, alone_by, acted_alone, ran_left_over, resumed_by}
 use Rattle.tau_step.proofs.Fitting.{lowest_raised}
 use Rattle.tau_step.proofs.EffectsInTurn.{works_on, works_none}
 use Rattle.tau_step.proofs.Resting.{any_none, rest_hand, rest_waiting, busy_none, none_busy, resumed_later, resumed_quiet, alone_begun, alone_none, alone_more, alone_cut, alone_on, left_begun, left_more, left_over_on, left_none, left_raised}
@@ -50,14 +50,14 @@ pub acts_none : (w : ℕ) (run : Run) → Stood run.core → Works (alone_so w) 
 acts_none w run stood = works_none (alone_so w) run stood (λ P. alone_begun run.core.load w P)
 
 module _ (w : ℕ) (old mid new : Run) (x : Works (alone_so w) true old mid) where
-  pub acts_more : Works (worked_by w (Ok true)) true mid new → Works (alone_so w) true old new
-  acts_more y = works_on (alone_so w) (worked_by w (Ok true)) (alone_so w) true old mid new (λ l P Q P' p q. alone_on l w (Alone w ∷ []) true P Q P' p (alone_more l w Q P' (sym q.0) q.1)) x y
+  pub acts_more : Works (alone_by w (Ok true)) true mid new → Works (alone_so w) true old new
+  acts_more y = works_on (alone_so w) (alone_by w (Ok true)) (alone_so w) true old mid new (λ l P Q P' p q. alone_on l w (Alone w ∷ []) true P Q P' p (alone_more l w Q P' (sym q.0) q.1)) x y
 
-  pub acts_end : Works (worked_by w (Ok false)) true mid new → Works (acted_alone w) true old new
-  acts_end y = works_on (alone_so w) (worked_by w (Ok false)) (acted_alone w) true old mid new (λ l P Q P' p q. alone_on l w [] true P Q P' p (alone_none l w Q P' (sym q.0) q.1)) x y
+  pub acts_end : Works (alone_by w (Ok false)) true mid new → Works (acted_alone w) true old new
+  acts_end y = works_on (alone_so w) (alone_by w (Ok false)) (acted_alone w) true old mid new (λ l P Q P' p q. alone_on l w [] true P Q P' p (alone_none l w Q P' (sym q.0) q.1)) x y
 
-  pub acts_cut : (e : NoMemory) → Works (worked_by w (Err e)) false mid new → Works (acted_alone w) false old new
-  acts_cut e y = works_on (alone_so w) (worked_by w (Err e)) (acted_alone w) false old mid new (λ l P Q P' p q. alone_on l w [] false P Q P' p (alone_cut l w Q P' q)) x y
+  pub acts_cut : (e : NoMemory) → Works (alone_by w (Err e)) false mid new → Works (acted_alone w) false old new
+  acts_cut e y = works_on (alone_so w) (alone_by w (Err e)) (acted_alone w) false old mid new (λ l P Q P' p q. alone_on l w [] false P Q P' p (alone_cut l w Q P' q)) x y
 
 -- ---- calls left over, one after another
 

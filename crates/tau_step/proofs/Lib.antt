@@ -51,3 +51,4 @@ mod Noting
 mod Ordered
 mod PeekTurns
 mod OptimistTurns
+mod StyleRuns

@@ -2,7 +2,7 @@
 use Rattle.std.proofs.Common.{ℕ, ◌+◌, ◌*◌, ◌<◌, ◌≤◌, ◌≡◌, ◌⊎◌, inl, inr, Bool, true, false, List, [], ◌∷◌, ◌++◌, refl, sym, ap, subst, ◌∙◌, Option, length, length-append, arith, lt-ltb}
 use Rattle.std.specs.Prelude.{Some, None, is_some, not, nat_lt, ◌&&◌, ◌||◌, ◌-◌, slice_get, IsTrue, Result, Ok, Err}
 use Rattle.std.proofs.lemmas.Bool.{cases_Bool}
-use Rattle.tau_base.specs.declared.limits.TheConstants.{MAX_CALLS}
+use Rattle.tau_base.specs.declared.limits.TheConstants.{MAX_CALLS, MAX_STEPS}
 use Rattle.tau_base.specs.declared.value.Call.{Call}
 use Rattle.tau_base.specs.declared.value.Key.{Key}
 use Rattle.tau_base.specs.declared.value.Mode.{Mode}
@@ -39,7 +39,7 @@ use Rattle.tau_run.proofs.Peeked.{front_ended}
 use Rattle.tau_run.proofs.Steps.{if_known, if_yes, if_not}
 use Rattle.tau_step.specs.TurnParts.{has_work, Worked}
 use Rattle.tau_step.specs.Acting.{WorkerTurned, has_work_in, raised}
-use Rattle.tau_step.specs.Optimists.{Peeks, PeekerFits, PeeksItsCall, IsAtLock, IsAtNone, IsOfCall, TurnedIn, OptimistTurned, turned_in, has_turn_in, ready_at}
+use Rattle.tau_step.specs.Optimists.{Peeks, PeekerFits, PeeksItsCall, IsAtLock, IsAtNone, IsOfCall, TurnedIn, OptimistTurned, turned_in, turns_left, has_turn_in, ready_at}
 use Rattle.tau_step.specs.Progressed.{progress, works, Comes}
 use Rattle.tau_step.specs.Remains.{worker_left}
 use Rattle.tau_step.proofs.Deciding.{waits}
@@ -484,11 +484,7 @@ module _ (p : Plain) (w number : ℕ) (key : Key) (mode : Mode) (at_lock : IsAtL
 
 -- ---- how much is left
 
--- what the worker has still to do, at most: each of its events, and between two of them as many peeks as a call can make
-abbrev pub turns_left : List Proc → Worker → List (Key × Value) → ℕ
-turns_left procs wk seen = 65 * worker_left procs wk + (64 - length seen)
-
-pub seen_few : (procs : List Proc) (o : Option Hand) (q : PlainPeeker) → IsOfCall procs o q → length q.seen ≤ 64
+pub seen_few : (procs : List Proc) (o : Option Hand) (q : PlainPeeker) → IsOfCall procs o q → length q.seen ≤ MAX_STEPS
 seen_few procs o q (inl none) = let e = ap (length {A = Key × Value}) none in omega (arith, e)
 seen_few procs o q (inr of_call) = of_call.2.few
 
@@ -498,7 +494,7 @@ module _ (w : ℕ) (p p' : Plain) (K : List (Act Txn)) (h : Hidden) (es : List m
   taken = if_then (has_turn_in w p p' K h es told f) _ _ works c.moved
 
   -- it falls with each turn
-  pub turn_falls : length seen' ≤ 64 → turns_left p.load.procs (worker_at p' w) seen' < turns_left p.load.procs (worker_at p w) (f w)
+  pub turn_falls : length seen' ≤ MAX_STEPS → turns_left p.load.procs (worker_at p' w) seen' < turns_left p.load.procs (worker_at p w) (f w)
   turn_falls few = elim taken [
     | inl peek ↦
         (let more : List (Key × Value) = (peek.key, ((core_of p h).shards ((setting_of p.load).shard_of peek.key)).rows peek.key) ∷ [] in

@@ -21,7 +21,7 @@ use Rattle.tau_step.specs.Along.{Quiet}
 use Rattle.tau_step.specs.RunEffects.{Works, total_left}
 use Rattle.tau_step.specs.Progressed.{Comes, stays, anchors, drops}
 use Rattle.tau_step.specs.Remains.{sum_below, worker_left}
-use Rattle.tau_step.specs.Rounding.{turned, worked_by}
+use Rattle.tau_step.specs.Rounding.{turned, alone_by}
 use Rattle.tau_step.proofs.Deciding.{if_not}
 use Rattle.tau_step.proofs.Fitting.{stands_tries}
 use Rattle.tau_step.proofs.EffectsInTurn.{works_as, works_none}
@@ -44,10 +44,10 @@ module _ (old new : Run) (clerk : new.clerk ≡ old.clerk) (failed : new.failed 
       record { comes = comes; stood = (c.order, c.hidden, c.stands); load = c.load; clerk = clerk; failed = failed; workers = workers; streams = streams; flushes = flushes }
 
   -- the turn of a worker
-  pub work_works : (w : ℕ) (r : Result Bool NoMemory) → ((K : List (Act Txn)) (h : Hidden) (es : List machine.Event) (told : List (ℕ × List ℕ)) → Stands old.core K h → WorkerTurned w old.core new.core K h es told r) → Works (worked_by w r) (is_ok r) old new
-  work_works w (Ok did) t = works_of (worked_by w (Ok did)) true (λ K h es told g. (let q = t K h es told g in let c = q.1 in
+  pub work_works : (w : ℕ) (r : Result Bool NoMemory) → ((K : List (Act Txn)) (h : Hidden) (es : List machine.Event) (told : List (ℕ × List ℕ)) → Stands old.core K h → WorkerTurned w old.core new.core K h es told r) → Works (alone_by w r) (is_ok r) old new
+  work_works w (Ok did) t = works_of (alone_by w (Ok did)) true (λ K h es told g. (let q = t K h es told g in let c = q.1 in
       record { hidden = c.hidden; order = c.order; events = c.events; stands = c.stands; load = c.load; taken = c.taken; moved = (q.0, c.moved) }))
-  work_works w (Err e) t = works_of (worked_by w (Err e)) false (λ K h es told g. t K h es told g)
+  work_works w (Err e) t = works_of (alone_by w (Err e)) false (λ K h es told g. t K h es told g)
 
   -- an anchor
   pub anchor_works : {A : Type 0} (j : ℕ) (r : Result A NoMemory) → OnOk r ((K : List (Act Txn)) (h : Hidden) (es : List machine.Event) (told : List (ℕ × List ℕ)) → Stands old.core K h → Comes (anchors true j) old.core new.core told told K h es) →
@@ -58,18 +58,16 @@ module _ (old new : Run) (clerk : new.clerk ≡ old.clerk) (failed : new.failed 
   pub removal_works : ((K : List (Act Txn)) (h : Hidden) (es : List machine.Event) (told : List (ℕ × List ℕ)) → Stands old.core K h → Comes (drops true) old.core new.core told told K h es) → Works (turned turn.Drop) true old new
   removal_works all = works_of (turned turn.Drop) true (λ K h es told g. all K h es told g)
 
--- as the turn word of the worker
-pub word_works : (w : ℕ) (old new : Run) (r : Result Bool NoMemory) → Works (worked_by w r) (is_ok r) old new → Works (turned (turn.Worker w)) (is_ok r) old new
-word_works w old new (Ok did) x = works_as (worked_by w (Ok did)) (turned (turn.Worker w)) true true old new (λ l P P' q. q.1) x
-word_works w old new (Err e) x = works_as (worked_by w (Err e)) (turned (turn.Worker w)) false false old new (λ l P P' q. q) x
-
 -- turn words of nobody
 
-absent_worker : (set : Setting) (m n w : ℕ) → m ≤ w → (P : Progress) → Worked set m n w P P
-absent_worker set m n w le P = if_not (has_work set m n P.state w) _ _ (first_not (nat_lt w m) (is_some (P.state.workers w).hand || (not (is_raised set m n P.state) && not (is_empty (P.state.workers w).waiting))) (not_below w m le)) refl
+absent_turn : (a b c : Bool) → a ≡ false → (a && (b || c)) ≡ false
+absent_turn false b c e = refl
+absent_turn true b c e = absurd (let bad : true ≡ false = e in cc)
 
-pub no_worker : (w : ℕ) (run : Run) → Stood run.core → run.core.load.workers ≤ w → Works (turned (turn.Worker w)) true run run
-no_worker w run stood le = works_none (turned (turn.Worker w)) run stood (λ P. absent_worker (setting_of run.core.load) run.core.load.workers run.core.load.streams w le P)
+pub no_worker : (style : Style) (f : Peeks) (w : ℕ) (r : Result Bool NoMemory) (run : Run) → Stood run.core → run.core.load.workers ≤ w → Works (worked_by style f f w (Ok false)) true run run
+no_worker style f w r run stood le = works_none (worked_by style f f w (Ok false)) run stood (λ P.
+    let none = absent_turn (nat_lt w run.core.load.workers) (is_some (P.state.workers w).hand) _ (not_below w run.core.load.workers le) in
+    (sym none, if_not (turns_now run.core.load P f w) _ _ none refl))
 
 pub absent_manager : (l : Load) (j : ℕ) → l.streams ≤ j → (P : Progress) → Managed (setting_of l) l.workers l.streams j P P
 absent_manager l j le P = if_not (is_going (setting_of l) l.workers l.streams P.state j) _ _ (first_not (nat_lt j l.streams) (is_none (P.state.streams j).stop) (not_below j l.streams le)) refl
@@ -96,9 +94,6 @@ work_fewer w p p' r lt stood t e =
     (worked_total (setting_of p.load) p.load.workers p.load.streams w lt (record { state = core_of p h; events = []; joined = K; told = [] }) (record { state = core_of p' c.hidden; events = c.events; joined = c.order; told = [] }) (sym q.0) (stands_tries p K h g w) c.moved)
 
 -- no stream is touched by these
-
-pub word_quiet : (w : ℕ) (whole : Bool) (l : Load) (P P' : Progress) → turned (turn.Worker w) whole l P P' → Quiet P.state P'.state
-word_quiet w whole l P P' h = record { grown = worked_grows (setting_of l) l.workers l.streams P P' w whole h; same = λ i. worked_same (setting_of l) l.workers l.streams P P' i w whole h }
 
 pub anchor_quiet : (j : ℕ) (whole : Bool) (l : Load) (P P' : Progress) → turned (turn.Anchor j) whole l P P' → Quiet P.state P'.state
 anchor_quiet j whole l P P' h = record { grown = anchored_grows (setting_of l) l.workers l.streams P P' j whole h; same = λ i. anchored_same (setting_of l) l.workers l.streams P P' i j whole h }

@@ -1,5 +1,5 @@
 -- The turn of a worker in a style, with what the workers have peeked before it and after it.
-use Rattle.std.specs.Prelude.{Result, Ok, Err, ℕ, ◌≡◌, ◌⊎◌, Bool, true, Option, Some, None, List, [], ◌∷◌, ◌++◌}
+use Rattle.std.specs.Prelude.{Result, Ok, Err, ℕ, ◌≡◌, ◌⊎◌, ◌+◌, ◌-◌, ◌*◌, Bool, true, Option, Some, None, List, [], ◌∷◌, ◌++◌, length, slice_get}
 use Rattle.std.specs.Map.{lookup}
 use Rattle.tau_base.specs.Database.{same_key}
 use Rattle.tau_base.specs.Shards.{shard_number}
@@ -24,8 +24,11 @@ use Rattle.tau_core.specs.Stands.{Stands}
 use Rattle.tau_core.specs.Steps.{LockSteps}
 use Rattle.tau_core.specs.declared.event.Outcome.TheVariants as outcome
 use Rattle.tau_occ.specs.declared.style.Style.{Style}
-use Rattle.tau_occ.specs.declared.style.Style.TheVariants.{Optimistic}
-use Rattle.tau_machine.specs.Worker.{begun}
+use Rattle.tau_occ.specs.declared.style.Style.TheVariants.{Locking, Optimistic}
+use Rattle.tau_base.specs.declared.limits.TheConstants.{MAX_STEPS}
+use Rattle.tau_machine.specs.Worker.{Worker, begun}
+use Rattle.tau_text.specs.declared.load.Workload.{Workload}
+use Rattle.tau_step.specs.Remains.{sum_below, worker_left}
 use Rattle.tau_proc.specs.declared.proc.Proc.{Proc}
 use Rattle.tau_run.specs.Fits.{Fits}
 use Rattle.tau_run.specs.Turns.{Progress, IfSo}
@@ -70,6 +73,34 @@ IsOfCall procs o q = (q.seen ≡ []) ⊎ ((hand : Hand) × (o ≡ Some hand) × 
 pub record PeekerFits (p : Plain) (w : ℕ) (q : PlainPeeker) : Type 0 where
   pub fits : Fits p.load.procs q.seen (ready_at p w)
   pub call : IsOfCall p.load.procs (ready_at p w) q
+
+-- what the workers of these peekers have peeked
+abbrev pub seen_in : Option PlainPeeker → List (Key × Value)
+seen_in None = []
+seen_in (Some q) = q.seen
+
+abbrev pub peeks_of : List PlainPeeker → Peeks
+peeks_of qs w = seen_in (slice_get qs w)
+
+-- each optimistic worker has a peeker, which fits its call; in the style Locking there is none
+pub record AllFit (p : Plain) (qs : List PlainPeeker) : Type 0 where
+  pub count : length qs ≡ p.load.workers
+  pub each : (w : ℕ) (q : PlainPeeker) → slice_get qs w ≡ Some q → PeekerFits p w q
+
+abbrev pub AreFit : Style → Plain → List PlainPeeker → Type 0
+AreFit Locking p qs = qs ≡ []
+AreFit Optimistic p qs = AllFit p qs
+
+-- the core stands on this workload
+abbrev pub IsOfLoad : Workload → Plain → Type 0
+IsOfLoad load p = (load.declarations.procs ≡ p.load.procs) × (load.calls ≡ p.load.calls)
+
+-- what a worker has still to do, at most: each of its events, and between two of them as many peeks as a call can make
+abbrev pub turns_left : List Proc → Worker → List (Key × Value) → ℕ
+turns_left procs wk seen = (MAX_STEPS + 1) * worker_left procs wk + (MAX_STEPS - length seen)
+
+abbrev pub all_turns_left : Plain → Peeks → ℕ
+all_turns_left p f = sum_below (λ w. turns_left p.load.procs (worker_at p w) (f w)) p.load.workers
 
 -- the call of the worker, also where it rests and would begin it, is at no lock
 abbrev pub IsAtNone : Plain → ℕ → Type 0

@@ -10,35 +10,35 @@ use Rattle.tau_step.proofs.run.Run.alone.Goals as goal
 pub acts-init : goal.acts-init
 acts-init c = record { works = acts_none c.args.worker c.args.self.now c.requires.stood; settles = settles_none c.args.worker c.args.self.now.core c.requires.settling }
 
-pub work-requires-clause-stood : goal.work-requires-clause-stood
-work-requires-clause-stood c = c.acts.invariant.works.stood
+pub work_alone-requires-clause-stood : goal.work_alone-requires-clause-stood
+work_alone-requires-clause-stood c = c.acts.invariant.works.stood
 
-pub work-requires-clause-there : goal.work-requires-clause-there
-work-requires-clause-there c = let load = ap (λ (l : Load). l.workers) c.acts.invariant.works.load in omega (arith, c.requires.there, load)
+pub work_alone-requires-clause-there : goal.work_alone-requires-clause-there
+work_alone-requires-clause-there c = let load = ap (λ (l : Load). l.workers) c.acts.invariant.works.load in omega (arith, c.requires.there, load)
 
-pub work-requires-clause-lowest : goal.work-requires-clause-lowest
-work-requires-clause-lowest c = works_lowest (alone_so c.args.worker) true c.args.self.now c.acts.self c.requires.stood (alone_quiet c.args.worker true) c.acts.invariant.works c.requires.lowest
+pub work_alone-requires-clause-lowest : goal.work_alone-requires-clause-lowest
+work_alone-requires-clause-lowest c = works_lowest (alone_so c.args.worker) true c.args.self.now c.acts.self c.requires.stood (alone_quiet c.args.worker true) c.acts.invariant.works c.requires.lowest
 
 pub acts-preserved : goal.acts-preserved
 acts-preserved c = record {
-  works = acts_more c.args.worker c.args.self.now c.acts.self c.work.new.self c.acts.invariant.works (rw c.if-branch.true at c.in_ok-work.ensures.works);
-  settles = settles_on c.args.worker c.args.self.now.core c.acts.self.core c.work.new.self.core c.acts.invariant.settles
-      (c.work.ensures.alone (λ u ne. c.acts.invariant.settles.others u ne ∙ c.requires.alone u ne) c.acts.invariant.settles.settling);
+  works = acts_more c.args.worker c.args.self.now c.acts.self c.work_alone.new.self c.acts.invariant.works (rw c.if-branch.true at c.in_ok-work_alone.ensures.works);
+  settles = settles_on c.args.worker c.args.self.now.core c.acts.self.core c.work_alone.new.self.core c.acts.invariant.settles
+      (c.work_alone.ensures.alone (λ u ne. c.acts.invariant.settles.others u ne ∙ c.requires.alone u ne) c.acts.invariant.settles.settling);
 }
 
 pub acts-smaller : goal.acts-smaller
-acts-smaller c = c.work.ensures.fewer (c.in_ok-work.was ∙ ap Ok c.if-branch.true)
+acts-smaller c = c.work_alone.ensures.fewer (c.in_ok-work_alone.was ∙ ap Ok c.if-branch.true)
 
 pub returns-clause-works : goal.returns-clause-works
-returns-clause-works c = acts_end c.args.worker c.args.self.now c.acts.self c.work.new.self c.acts.invariant.works (rw c.if-branch.false at c.in_ok-work.ensures.works)
+returns-clause-works c = acts_end c.args.worker c.args.self.now c.acts.self c.work_alone.new.self c.acts.invariant.works (rw c.if-branch.false at c.in_ok-work_alone.ensures.works)
 
 pub returns-clause-settles : goal.returns-clause-settles
-returns-clause-settles c = settles_on c.args.worker c.args.self.now.core c.acts.self.core c.work.new.self.core c.acts.invariant.settles
-    (c.work.ensures.alone (λ u ne. c.acts.invariant.settles.others u ne ∙ c.requires.alone u ne) c.acts.invariant.settles.settling)
+returns-clause-settles c = settles_on c.args.worker c.args.self.now.core c.acts.self.core c.work_alone.new.self.core c.acts.invariant.settles
+    (c.work_alone.ensures.alone (λ u ne. c.acts.invariant.settles.others u ne ∙ c.requires.alone u ne) c.acts.invariant.settles.settling)
 
-pub returns-in_err-work-clause-works : goal.returns-in_err-work-clause-works
-returns-in_err-work-clause-works c = rw (err_from_is_err_and c.from_residual.result c.from_residual.ensures.1).1 (acts_cut c.args.worker c.args.self.now c.acts.self c.work.new.self c.acts.invariant.works _ c.in_err-work.ensures.works)
+pub returns-in_err-work_alone-clause-works : goal.returns-in_err-work_alone-clause-works
+returns-in_err-work_alone-clause-works c = rw (err_from_is_err_and c.from_residual.result c.from_residual.ensures.1).1 (acts_cut c.args.worker c.args.self.now c.acts.self c.work_alone.new.self c.acts.invariant.works _ c.in_err-work_alone.ensures.works)
 
-pub returns-in_err-work-clause-settles : goal.returns-in_err-work-clause-settles
-returns-in_err-work-clause-settles c = settles_on c.args.worker c.args.self.now.core c.acts.self.core c.work.new.self.core c.acts.invariant.settles
-    (c.work.ensures.alone (λ u ne. c.acts.invariant.settles.others u ne ∙ c.requires.alone u ne) c.acts.invariant.settles.settling)
+pub returns-in_err-work_alone-clause-settles : goal.returns-in_err-work_alone-clause-settles
+returns-in_err-work_alone-clause-settles c = settles_on c.args.worker c.args.self.now.core c.acts.self.core c.work_alone.new.self.core c.acts.invariant.settles
+    (c.work_alone.ensures.alone (λ u ne. c.acts.invariant.settles.others u ne ∙ c.requires.alone u ne) c.acts.invariant.settles.settling)

@@ -2,7 +2,7 @@ use Rattle.std.proofs.Common.{refl, ◌∙◌}
 use Rattle.tau_core.specs.Opens.{nothing}
 use Rattle.tau_step.proofs.Fitting.{lowest_raised}
 use Rattle.tau_step.proofs.Running.{work_works, work_fewer}
-use Rattle.tau_step.proofs.run.Run.work.Goals as goal
+use Rattle.tau_step.proofs.run.Run.work_alone.Goals as goal
 
 pub worker_turn-requires-clause-stood : goal.worker_turn-requires-clause-stood
 worker_turn-requires-clause-stood c = c.requires.stood
