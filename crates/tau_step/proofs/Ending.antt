@@ -34,7 +34,6 @@ use Rattle.tau_core.specs.Opens.{Opened, nothing}
 use Rattle.tau_core.specs.Stands.{Stands}
 use Rattle.tau_core.proofs.Promises.{acknowledged_law, committed_law}
 use Rattle.tau_occ.specs.declared.style.Style.{Style}
-use Rattle.tau_occ.specs.declared.style.Style.TheVariants.{Locking}
 use Rattle.tau_run.specs.CoreRun.{AreAcks, IsGiven}
 use Rattle.tau_run.specs.Fates.{IsNumberOf, fates_by}
 use Rattle.tau_run.specs.Gives.{CameTo, Concluded, CutOff, Gave}
@@ -43,7 +42,7 @@ use Rattle.tau_run.specs.Laws.{KeepCalls}
 use Rattle.tau_run.specs.Run.{pair_of}
 use Rattle.tau_run.specs.RunFacts.{by_turns, turns_of}
 use Rattle.tau_run.specs.StopsLeave.{HasFront, IsOver, NamesLowest, stops_in}
-use Rattle.tau_run.specs.Schedule.{RunState, IsWhole, IsPart, state_of, still, todos_of}
+use Rattle.tau_run.specs.Schedule.{RunState, IsWhole, IsPart, peeked, state_of, still, todos_of}
 use Rattle.tau_run.specs.Turns.{Progress, begun}
 use Rattle.tau_run.specs.Writers.{AreNew, EachOf, IsBegun, Left}
 use Rattle.tau_run.proofs.Steps.{did_steps, began_steps}
@@ -58,7 +57,8 @@ use Rattle.tau_step.specs.Counts.{AreCounted, AreHalved, HasFlushed, IsHalfFlush
 use Rattle.tau_step.specs.Device.{noting}
 use Rattle.tau_step.specs.RunEffects.{Moves}
 use Rattle.tau_step.specs.Progressed.{progress}
-use Rattle.tau_step.specs.Rounding.{ran_all}
+use Rattle.tau_step.specs.Optimists.{Peeks}
+use Rattle.tau_step.specs.Rounding.{none_peeked, ran_all}
 use Rattle.tau_step.proofs.Gathering.{is_broken}
 use Rattle.tau_step.proofs.Kept.{kept_leaving}
 use Rattle.tau_step.proofs.EffectsInTurn.{lowest_same}
@@ -69,12 +69,12 @@ use Rattle.tau_machine.proofs.Lists.{member_of}
 
 -- ---- all that was to do
 
-module _ (l : Load) (turns : List Turn) (opening : Core) (P : Progress) where
-  pub all_whole : ran_all turns true l (begun opening) P → IsWhole (setting_of l) l.workers l.streams Locking turns opening (still P)
-  all_whole r = did_steps (setting_of l) l.workers l.streams Locking (todos_of (setting_of l) l.workers l.streams turns) (still (begun opening)) (still P) r
+module _ (l : Load) (style : Style) (f : Peeks) (turns : List Turn) (opening : Core) (P : Progress) where
+  pub all_whole : ran_all style none_peeked f turns true l (begun opening) P → IsWhole (setting_of l) l.workers l.streams style turns opening (peeked P f)
+  all_whole r = did_steps (setting_of l) l.workers l.streams style (todos_of (setting_of l) l.workers l.streams turns) (still (begun opening)) (peeked P f) r
 
-  all_part : ran_all turns false l (begun opening) P → IsPart (setting_of l) l.workers l.streams Locking turns opening (still P)
-  all_part r = began_steps (setting_of l) l.workers l.streams Locking (todos_of (setting_of l) l.workers l.streams turns) (still (begun opening)) (still P) r
+  all_part : ran_all style none_peeked f turns false l (begun opening) P → IsPart (setting_of l) l.workers l.streams style turns opening (peeked P f)
+  all_part r = began_steps (setting_of l) l.workers l.streams style (todos_of (setting_of l) l.workers l.streams turns) (still (begun opening)) (peeked P f) r
 
 -- ---- how it begins
 
@@ -161,7 +161,7 @@ module _ {D : Type 0} {G : Ghosts D} (seen_now : (d : D) → G.tells → G.may_l
 
 -- ---- all of it
 
-module _ {D : Type 0} {G : Ghosts D} (seen_now : (d : D) → G.tells → G.may_leave d (G.seen d)) (load : Workload) (bases : ℕ → List ℕ) (old new : Run) (ws ws' : List (Writer D G)) (hears : Type 0) (held held' : List ℕ) (faults faults' : ℕ)
+module _ {D : Type 0} {G : Ghosts D} (seen_now : (d : D) → G.tells → G.may_leave d (G.seen d)) (style : Style) (peeks : Peeks) (load : Workload) (bases : ℕ → List ℕ) (old new : Run) (ws ws' : List (Writer D G)) (hears : Type 0) (held held' : List ℕ) (faults faults' : ℕ)
     (o : Opened old.core.load old.core) (b : IsBegun (format_of old.core.load.mode) bases ws old.core.load.opening) (acks : old.clerk.acks ≡ []) (works : old.clerk.sink_failed ≡ false) where
   abbrev turns : List Turn
   turns = turns_of load
@@ -173,7 +173,7 @@ module _ {D : Type 0} {G : Ghosts D} (seen_now : (d : D) → G.tells → G.may_l
   opening = core_of old.core nothing
 
   abbrev by : Bool → Load → Core → Progress → Type 0
-  by = counting ws ws' (by_turns Locking l.streams l.workers load)
+  by = counting ws ws' (by_turns style l.streams l.workers load)
 
   first_held : Heard held old.clerk.acks old.clerk.sink_failed held
   first_held = subst (λ (a : List (ℕ × List ℕ)). Heard held a old.clerk.sink_failed held) (sym acks) (subst (λ (f : Bool). Heard held [] f held) (sym works) (sym (append-nil held)))
@@ -182,8 +182,8 @@ module _ {D : Type 0} {G : Ghosts D} (seen_now : (d : D) → G.tells → G.may_l
   rose_now rose e = elim (rose e) [ inl was ↦ absurd (let bad : false ≡ true = sym works ∙ was in cc bad) | inr r ↦ r ]
 
   -- from its beginning
-  from_begun : (whole : Bool) (P : Progress) → ran_all turns whole l (progress old.core nothing [] [] old.clerk.acks) P → ran_all turns whole l (begun opening) P
-  from_begun whole P r = subst (λ (a : List (ℕ × List ℕ)). ran_all turns whole l (record { state = opening; events = []; joined = []; told = a }) P) acks r
+  from_begun : (whole : Bool) (P : Progress) → ran_all style none_peeked peeks turns whole l (progress old.core nothing [] [] old.clerk.acks) P → ran_all style none_peeked peeks turns whole l (begun opening) P
+  from_begun whole P r = subst (λ (a : List (ℕ × List ℕ)). ran_all style none_peeked peeks turns whole l (record { state = opening; events = []; joined = []; told = a }) P) acks r
 
   long : (j : ℕ) → j < l.streams → length (bases j) ≡ slice_index l.opening.ends j
   long j lt = b.long j (let e = o.opening.count in omega (arith, e, lt))
@@ -211,9 +211,9 @@ module _ {D : Type 0} {G : Ghosts D} (seen_now : (d : D) → G.tells → G.may_l
             let same = ap (λ (d : Load). d.streams) went.load in
             omega (arith, within, count, same)
 
-    module _ (part : IsPart (setting_of l) l.workers l.streams Locking turns opening (still P)) where
+    module _ (part : IsPart (setting_of l) l.workers l.streams style turns opening (peeked P peeks)) where
       pub led : machine.Run (setting_of l) opening went.events went.order s × KeepCalls went.events × AreAcks l s told
-      led = turns_law (setting_of l) l.workers l.streams Locking turns opening (still P) o.opening part
+      led = turns_law (setting_of l) l.workers l.streams style turns opening (peeked P peeks) o.opening part
 
       abbrev pub came : CameTo by bases l ws ws' told
       came = record {
@@ -223,7 +223,7 @@ module _ {D : Type 0} {G : Ghosts D} (seen_now : (d : D) → G.tells → G.may_l
         events = went.events;
         joined = went.order;
         led = led.0;
-        part = (((λ w. []), part), λ e. false_not e);
+        part = ((peeks, part), λ e. false_not e);
         contents = given.0;
         streams = given.1;
         given = given.2;
@@ -237,9 +237,9 @@ module _ {D : Type 0} {G : Ghosts D} (seen_now : (d : D) → G.tells → G.may_l
       pub kept : (k : ℕ) → 1 ≤ k → k ≤ length l.calls → (w : ℕ) × (1 ≤ in_worker k (s.workers w))
       kept k low high = let w = o.waits k low high in (w.0, kept_there (setting_of l) opening went.events went.order s led.0 led.1 k w.0 w.1)
 
-  module _ (x : Moves (ran_all turns) true old new ws ws' hears held held' faults faults') where
+  module _ (x : Moves (ran_all style none_peeked peeks turns) true old new ws ws' hears held held' faults faults') where
     abbrev noted : Bool → Load → Progress → Progress → Type 0
-    noted = noting old.flushes new.flushes (ran_all turns)
+    noted = noting old.flushes new.flushes (ran_all style none_peeked peeks turns)
 
     went : Went bases noted true old.core new.core ws ws' old.clerk.acks new.clerk.acks [] nothing []
     went = x.went bases [] nothing [] o.stands (begun_kept bases ws old.core o b)
@@ -247,10 +247,10 @@ module _ {D : Type 0} {G : Ghosts D} (seen_now : (d : D) → G.tells → G.may_l
     abbrev P_end : Progress
     P_end = progress new.core went.hidden went.events went.order new.clerk.acks
 
-    whole : IsWhole (setting_of l) l.workers l.streams Locking turns opening (still P_end)
-    whole = all_whole l turns opening P_end (from_begun true P_end went.moved.0)
+    whole : IsWhole (setting_of l) l.workers l.streams style turns opening (peeked P_end peeks)
+    whole = all_whole l style peeks turns opening P_end (from_begun true P_end went.moved.0)
 
-    part : IsPart (setting_of l) l.workers l.streams Locking turns opening (still P_end)
+    part : IsPart (setting_of l) l.workers l.streams style turns opening (peeked P_end peeks)
     part = ([], whole)
 
     -- the calls of the disks
@@ -278,7 +278,7 @@ module _ {D : Type 0} {G : Ghosts D} (seen_now : (d : D) → G.tells → G.may_l
     told_numbers = λ k d lt.
         told_one new.core went.order went.hidden went.stands new.clerk.acks
         (subst (λ (d : Load). (w : ℕ) → filter (λ (a : ℕ × List ℕ). (setting_of d).worker_of a.0 == w) new.clerk.acks ≡ map pair_of ((core_of new.core went.hidden).acked w)) (sym went.load)
-        (turns_law (setting_of l) l.workers l.streams Locking turns opening (still P_end) o.opening part).2)
+        (turns_law (setting_of l) l.workers l.streams style turns opening (peeked P_end peeks) o.opening part).2)
         (slice_index_or new.clerk.acks k d) (at_member new.clerk.acks k d lt)
 
     concluded : (end : RunEnd) → end.report.acks ≡ new.clerk.acks →
@@ -289,9 +289,9 @@ module _ {D : Type 0} {G : Ghosts D} (seen_now : (d : D) → G.tells → G.may_l
     concluded end told fates order tables disk sink = record {
       acks = new.clerk.acks;
       came = came noted true new.clerk.acks went part;
-      whole = (((λ w. []), whole), λ e. (counted, halved));
+      whole = ((peeks, whole), λ e. (counted, halved));
       over = subst (λ (d : Load). IsOver d.streams (core_of new.core went.hidden)) went.load
-          (over_at new.core went.order went.hidden went.stands Locking turns opening (still P_end) refl (subst (λ (d : Load). IsWhole (setting_of d) d.workers d.streams Locking turns opening (still P_end)) (sym went.load) whole));
+          (over_at new.core went.order went.hidden went.stands style turns opening (peeked P_end peeks) refl (subst (λ (d : Load). IsWhole (setting_of d) d.workers d.streams style turns opening (peeked P_end peeks)) (sym went.load) whole));
       kept = kept noted true new.clerk.acks went part;
       heard = λ q. subst (λ (f : Bool). Heard held new.clerk.acks f held') (sym sink) (x.heard refl q held first_held);
       sink = λ e. rose_now x.rose (sym sink ∙ e);
@@ -328,14 +328,14 @@ module _ {D : Type 0} {G : Ghosts D} (seen_now : (d : D) → G.tells → G.may_l
     gave_by_end (Err e) told fates order tables disk sink = inl not_told
 
   -- memory ran out on the way
-  pub cut_off : Moves (ran_all turns) false old new ws ws' hears held held' faults faults' → CutOff by bases l ws ws' hears held held' (Rose faults faults')
+  pub cut_off : Moves (ran_all style none_peeked peeks turns) false old new ws ws' hears held held' faults faults' → CutOff by bases l ws ws' hears held held' (Rose faults faults')
   cut_off x =
       let c = x.went bases [] nothing [] o.stands (begun_kept bases ws old.core o b) in
       let P_cut : Progress = progress new.core c.went.hidden c.went.events c.went.order c.told_now in
-      let part : IsPart (setting_of l) l.workers l.streams Locking turns opening (still P_cut) = all_part l turns opening P_cut (from_begun false P_cut c.went.moved) in
+      let part : IsPart (setting_of l) l.workers l.streams style turns opening (peeked P_cut peeks) = all_part l style peeks turns opening P_cut (from_begun false P_cut c.went.moved) in
       record {
         acks = c.told_now;
-        came = came (ran_all turns) false c.told_now c.went part;
+        came = came (ran_all style none_peeked peeks turns) false c.told_now c.went part;
         count = c.count;
         sink_failed = new.clerk.sink_failed;
         heard = λ q. c.heard q held first_held;
@@ -343,6 +343,6 @@ module _ {D : Type 0} {G : Ghosts D} (seen_now : (d : D) → G.tells → G.may_l
       }
 
   -- how many writers there are
-  pub count_same : (whole : Bool) → Moves (ran_all turns) whole old new ws ws' hears held held' faults faults' → length ws' ≡ length ws
+  pub count_same : (whole : Bool) → Moves (ran_all style none_peeked peeks turns) whole old new ws ws' hears held held' faults faults' → length ws' ≡ length ws
   count_same true x = (x.went bases [] nothing [] o.stands (begun_kept bases ws old.core o b)).count
   count_same false x = (x.went bases [] nothing [] o.stands (begun_kept bases ws old.core o b)).went.count

@@ -51,4 +51,5 @@ mod Noting
 mod Ordered
 mod PeekTurns
 mod OptimistTurns
+mod StyleFits
 mod StyleRuns

@@ -9,7 +9,6 @@ use Rattle.tau_stream.specs.declared.writer.Writer.{Writer}
 use Rattle.tau_stream.specs.Writer.{has_failed}
 use Rattle.tau_model.specs.History.{Act}
 use Rattle.tau_machine.specs.Hands.{Txn}
-use Rattle.tau_machine.specs.Worker.{Worker}
 use Rattle.tau_machine.specs.State.{Core}
 use Rattle.tau_machine.specs.Events as machine
 use Rattle.tau_text.specs.declared.load.Turn.TheVariants as turn
@@ -25,9 +24,8 @@ use Rattle.tau_step.specs.declared.manager.Managing.TheVariants as did
 use Rattle.tau_step.specs.declared.run.Run.{Run}
 use Rattle.tau_step.specs.Along.{AreKept, Went}
 use Rattle.tau_step.specs.Keeping.{IsKept, IsHeld, ManagerTurned}
-use Rattle.tau_step.specs.RunEffects.{IsOn, Manages, total_left, to_flush}
+use Rattle.tau_step.specs.RunEffects.{IsOn, Manages, SameWorkers, to_flush}
 use Rattle.tau_step.specs.Progressed.{progress}
-use Rattle.tau_step.specs.Remains.{sum_below, worker_left}
 use Rattle.tau_step.specs.Rounding.{managed, managed_by, turned}
 use Rattle.tau_step.proofs.RunSteps.{went_as, kept_after}
 use Rattle.tau_step.proofs.Idling.{managed_ends, none_some}
@@ -111,11 +109,6 @@ lowest_by n j s s' there others was is before before' after after' did.Failed id
     let (y, now) = after' both.1 in
     lowest_new n j s s' others there (before both.0) y now failed failed' how.0 how.1 q
 
-pub total_same : (p p' : Plain) → p'.load ≡ p.load → ◌≡◌ {A = ℕ → Worker} (λ w. worker_at p' w) (λ w. worker_at p w) → total_left p' ≡ total_left p
-total_same p p' load same =
-    ap (λ (l : Load). sum_below (λ w. worker_left l.procs (worker_at p' w)) l.workers) load
-    ∙ ap (λ (f : ℕ → Worker). sum_below (λ w. worker_left p.load.procs (f w)) p.load.workers) same
-
 pub moved_by : (j : ℕ) (b : Managing) (l : Load) (P P' : Progress) → managed_by j (Ok b) true l P P' → managed j true l P P'
 moved_by j did.Idle l P P' q = q.0
 moved_by j did.Failed l P P' q = q.0
@@ -178,14 +171,14 @@ module _ {D : Type 0} {G : Ghosts D} (seen_now : (d : D) → G.tells → G.may_l
   pub is_held : IsHeld j w old.core
   is_held = let a = on.along in (a.bases j, a.order, a.hidden, a.stands, a.kept.long j low, a.kept.each j w is)
 
-  -- workers have as much left
-  pub manage_left : (a : Managing) → Turned (Ok a) → total_left new.core ≡ total_left old.core
-  manage_left a t =
+  -- workers are as they were
+  pub manage_same : (a : Managing) → Turned (Ok a) → SameWorkers old.core new.core
+  manage_same a t =
       let o = on.along in
       let m = t (o.bases j) o.order o.hidden [] [] o.stands (o.kept.long j low) (o.kept.each j w is) in
       let P = progress old.core o.hidden [] o.order [] in
       let P' = progress new.core m.hidden m.events m.order [] in
-      total_same old.core new.core m.load (managed_workers (setting_of old.core.load) old.core.load.workers old.core.load.streams P P' j true m.moved)
+      record { load = m.load; workers = managed_workers (setting_of old.core.load) old.core.load.workers old.core.load.streams P P' j true m.moved }
 
   -- and a flush leaves less of the stream
   pub manage_fewer : (a : Managing) → Turned (Ok a) → a ≡ did.Flushed → to_flush new.core j < to_flush old.core j

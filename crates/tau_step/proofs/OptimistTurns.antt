@@ -482,34 +482,8 @@ module _ (p : Plain) (w number : ℕ) (key : Key) (mode : Mode) (at_lock : IsAtL
   begun_peeks q q' fit same begins = peeks_its_call p w number key mode at_lock q q' fit same
       (λ empty c e. subst (λ (ps : List Proc). IsPeeking ps c q') same_procs (begins empty c (ap (λ (cs : List Call). slice_get cs (number - 1)) same_calls ∙ e)))
 
--- ---- how much is left
+-- ---- how much is peeked
 
 pub seen_few : (procs : List Proc) (o : Option Hand) (q : PlainPeeker) → IsOfCall procs o q → length q.seen ≤ MAX_STEPS
 seen_few procs o q (inl none) = let e = ap (length {A = Key × Value}) none in omega (arith, e)
 seen_few procs o q (inr of_call) = of_call.2.few
-
-module _ (w : ℕ) (p p' : Plain) (K : List (Act Txn)) (h : Hidden) (es : List machine.Event) (told : List (ℕ × List ℕ)) (f : Peeks) (seen' : List (Key × Value)) (g : Stands p K h)
-    (c : TurnedIn w p p' K h es told f Optimistic (at w seen' f)) (works : has_turn_in w p p' K h es told f ≡ true) where
-  taken : TakesTurn (setting_of p.load) p.load.workers p.load.streams Optimistic w (peeked (progress p h es K told) f) (peeked (progress p' c.hidden c.events c.order told) (at w seen' f))
-  taken = if_then (has_turn_in w p p' K h es told f) _ _ works c.moved
-
-  -- it falls with each turn
-  pub turn_falls : length seen' ≤ MAX_STEPS → turns_left p.load.procs (worker_at p' w) seen' < turns_left p.load.procs (worker_at p w) (f w)
-  turn_falls few = elim taken [
-    | inl peek ↦
-        (let more : List (Key × Value) = (peek.key, ((core_of p h).shards ((setting_of p.load).shard_of peek.key)).rows peek.key) ∷ [] in
-        let seen : seen' ≡ f w ++ more = sym (at_same w seen' f) ∙ ap (λ (z : RunState). z.peeks w) peek.after ∙ at_same w (f w ++ more) f in
-        let long = ap (length {A = Key × Value}) seen ∙ length-append (f w) more in
-        let same = ap (λ (z : RunState). worker_left p.load.procs (z.progress.state.workers w)) peek.after in
-        omega (arith, few, long, same))
-    | inr acts ↦
-        (let less = own_falls (setting_of p.load) w acts.1.event acts.1.own (core_of p h) (core_of p' c.hidden) acts.1.goes.new (stands_tries p K h g w) acts.1.goes.leads in
-        omega (arith, few, less))
-  ]
-
-  -- and the others have as much as before
-  pub others_same : (u : ℕ) → (u ≡ w → ⊥) → worker_at p' u ≡ worker_at p u
-  others_same u ne = elim taken [
-    | inl peek ↦ ap (λ (z : RunState). z.progress.state.workers u) peek.after
-    | inr acts ↦ own_others (setting_of p.load) w u ne acts.1.event (core_of p h) (core_of p' c.hidden) acts.1.goes.new acts.1.own acts.1.goes.leads
-  ]

@@ -23,7 +23,7 @@ use Rattle.tau_run.specs.Laws.{KeepCalls}
 use Rattle.tau_run.specs.Run as told
 use Rattle.tau_run.specs.RunFacts.{turns_of}
 use Rattle.tau_occ.specs.declared.style.Style.TheVariants.{Locking}
-use Rattle.tau_run.specs.Schedule.{IsWhole, still}
+use Rattle.tau_run.specs.Schedule.{IsWhole, peeked}
 use Rattle.tau_run.specs.Turns.{Progress, begun}
 use Rattle.tau_run.proofs.StepsLed.{turns_law}
 use Rattle.tau_run.proofs.Results.{run_law}
@@ -36,7 +36,8 @@ use Rattle.tau_step.specs.Along.{IsAlong, Went}
 use Rattle.tau_step.specs.Device.{IsFlushOrder, IsOfRun, noting}
 use Rattle.tau_step.specs.RunEffects.{IsOn, Moves}
 use Rattle.tau_step.specs.Progressed.{progress}
-use Rattle.tau_step.specs.Rounding.{ran_all}
+use Rattle.tau_step.specs.Optimists.{Peeks}
+use Rattle.tau_step.specs.Rounding.{none_peeked, ran_all}
 use Rattle.tau_step.proofs.Ending.{all_whole, begun_along, begun_kept}
 use Rattle.tau_step.proofs.EffectsInTurn.{lowest_same}
 
@@ -71,7 +72,7 @@ module _ {D : Type 0} {G : Ghosts D} (m : ℕ) (mode : LogMode) (load : Workload
 
 module _ {D : Type 0} {G : Ghosts D} (m : ℕ) (mode : LogMode) (load : Workload) (old new : Run) (ws ws' : List (Writer D G)) (hears : Type 0) (held held' : List ℕ) (faults faults' : ℕ)
     (fresh : OpenedFresh load.declarations.procs load.calls mode m (length ws) (catalogue_size (declarations_text load.declarations)) old.core) (are : AreNew (format_of mode) (λ j. catalogue_of load) ws) (acks : old.clerk.acks ≡ [])
-    (none : old.flushes.streams ≡ []) (x : Moves (ran_all (turns_of load)) true old new ws ws' hears held held' faults faults') where
+    (none : old.flushes.streams ≡ []) (f g : Peeks) (first : f ≡ none_peeked) (x : Moves (ran_all Locking f g (turns_of load)) true old new ws ws' hears held held' faults faults') where
   abbrev n : ℕ
   n = length ws
 
@@ -84,7 +85,7 @@ module _ {D : Type 0} {G : Ghosts D} (m : ℕ) (mode : LogMode) (load : Workload
   first_load : IsLoadOn n m mode load (fresh_start n) old.core.load
   first_load = loaded m mode load ws ws hears held held hears old.core fresh
 
-  went : Went bases (noting old.flushes new.flushes (ran_all (turns_of load))) true old.core new.core ws ws' old.clerk.acks new.clerk.acks [] nothing []
+  went : Went bases (noting old.flushes new.flushes (ran_all Locking f g (turns_of load))) true old.core new.core ws ws' old.clerk.acks new.clerk.acks [] nothing []
   went = x.went bases [] nothing [] opened.stands (begun_kept bases ws old.core opened (fresh_begun m mode load ws ws hears held held hears old.core fresh are))
 
   abbrev l : Load
@@ -99,21 +100,22 @@ module _ {D : Type 0} {G : Ghosts D} (m : ℕ) (mode : LogMode) (load : Workload
   is_load : IsLoadOn n m mode load (fresh_start n) l
   is_load = subst (λ (d : Load). IsLoadOn n m mode load (fresh_start n) d) (sym went.load) first_load
 
-  from_begun : ran_all (turns_of load) true old.core.load (begun (core_of old.core nothing)) P
-  from_begun = subst (λ (a : List (ℕ × List ℕ)). ran_all (turns_of load) true old.core.load (record { state = core_of old.core nothing; events = []; joined = []; told = a }) P) acks went.moved.0
+  from_begun : ran_all Locking none_peeked g (turns_of load) true old.core.load (begun (core_of old.core nothing)) P
+  from_begun = subst (λ (k : Peeks). ran_all Locking k g (turns_of load) true old.core.load (begun (core_of old.core nothing)) P) first
+      (subst (λ (a : List (ℕ × List ℕ)). ran_all Locking f g (turns_of load) true old.core.load (record { state = core_of old.core nothing; events = []; joined = []; told = a }) P) acks went.moved.0)
 
-  whole : IsWhole (setting_of l) m n Locking (turns_of load) (core_of old.core nothing) (still P)
+  whole : IsWhole (setting_of l) m n Locking (turns_of load) (core_of old.core nothing) (peeked P g)
   whole =
-      subst (λ (d : Load). IsWhole (setting_of d) m n Locking (turns_of load) (core_of old.core nothing) (still P)) (sym went.load)
-      (subst (λ (k : ℕ). IsWhole (setting_of old.core.load) m k Locking (turns_of load) (core_of old.core nothing) (still P)) first_load.streams
-      (subst (λ (k : ℕ). IsWhole (setting_of old.core.load) k old.core.load.streams Locking (turns_of load) (core_of old.core nothing) (still P)) first_load.workers
-      (all_whole old.core.load (turns_of load) (core_of old.core nothing) P from_begun)))
+      subst (λ (d : Load). IsWhole (setting_of d) m n Locking (turns_of load) (core_of old.core nothing) (peeked P g)) (sym went.load)
+      (subst (λ (k : ℕ). IsWhole (setting_of old.core.load) m k Locking (turns_of load) (core_of old.core nothing) (peeked P g)) first_load.streams
+      (subst (λ (k : ℕ). IsWhole (setting_of old.core.load) k old.core.load.streams Locking (turns_of load) (core_of old.core nothing) (peeked P g)) first_load.workers
+      (all_whole old.core.load Locking g (turns_of load) (core_of old.core nothing) P from_begun)))
 
   opening_is : machine.IsOpening (setting_of l) (core_of old.core nothing)
   opening_is = subst (λ (d : Load). machine.IsOpening (setting_of d) (core_of old.core nothing)) (sym went.load) opened.opening
 
   led : machine.Run (setting_of l) (core_of old.core nothing) went.events went.order s × KeepCalls went.events × AreAcks l s new.clerk.acks
-  led = turns_law (setting_of l) m n Locking (turns_of load) (core_of old.core nothing) (still P) opening_is ([], whole)
+  led = turns_law (setting_of l) m n Locking (turns_of load) (core_of old.core nothing) (peeked P g) opening_is ([], whole)
 
   there : (run : told.Run) × IsRunOf n l went.order s load run × (run.acks ≡ new.clerk.acks) × (run.start ≡ fresh_start n)
   there = run_law n m mode load new.core went.order went.hidden went.stands (fresh_start n) is_load (length-replicate n []) new.clerk.acks led.2
@@ -137,7 +139,7 @@ module _ {D : Type 0} {G : Ghosts D} (m : ℕ) (mode : LogMode) (load : Workload
         first = subst (λ (d : Load). IsFirstState d (core_of old.core nothing)) (sym went.load) (started old.core.load old.core opened);
         progress = P;
         led = led.0;
-        chosen = ((λ w. []), whole);
+        chosen = (g, whole);
         is = there.1;
         told = there.2;
         stopped = unstopped;

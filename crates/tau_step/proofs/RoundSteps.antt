@@ -1,9 +1,8 @@
 -- Rounds in a style, step by step.
 use Rattle.std.proofs.Common.{ℕ, suc, ◌<◌, ◌≡◌, Bool, true, false, List, [], ◌∷◌, ◌++◌, map, refl, sym, ap, subst, ◌∙◌, append_assoc, arith, ◌+◌}
-use Rattle.std.specs.Prelude.{◌||◌, Result, Ok, Err}
+use Rattle.std.specs.Prelude.{◌||◌}
 use Rattle.std.specs.List.{list_any}
 use Rattle.std.proofs.lemmas.List.{map-append}
-use Rattle.tau_base.specs.declared.value.NoMemory.{NoMemory}
 use Rattle.tau_base.proofs.Lists.{map_map}
 use Rattle.tau_base.proofs.Logic.{or_first}
 use Rattle.tau_occ.specs.declared.style.Style.{Style}
@@ -16,7 +15,7 @@ use Rattle.tau_run.specs.Schedule.{Todo, Word, Rounds, RunState, Began, Steps, o
 use Rattle.tau_run.proofs.Steps.{began_none, if_yes}
 use Rattle.tau_step.specs.Along.{Quiet, Silent, flushed_in}
 use Rattle.tau_step.specs.Optimists.{Peeks, turned_in}
-use Rattle.tau_step.specs.Rounding.{becomes, leaves, ran, kept, of_workers, of_managers, Rounded, RoundCut, rest_of_round, in_rounds, turns_now, any_now, worked_by}
+use Rattle.tau_step.specs.Rounding.{becomes, leaves, ran, kept, of_workers, of_managers, Rounded, RoundCut, rest_of_round, in_rounds, turns_now, any_now, worker_turned}
 use Rattle.tau_step.proofs.Rounding.{any_below, any_more, quiet_none, quiet_on, quiet_same}
 use Rattle.tau_step.proofs.Scheduled.{left_all, left_after, ran_both, ran_short, ran_next, ran_cut}
 use Rattle.tau_step.proofs.Silent.{false_not}
@@ -30,13 +29,13 @@ same_run P P' f f' e = ap (λ (x : RunState). x.progress) e
 module _ (style : Style) where
   -- ---- the turn of a worker
 
-  pub worked_quiet : (f f' : Peeks) (w : ℕ) (r : Result Bool NoMemory) (whole : Bool) (l : Load) (P P' : Progress) → worked_by style f f' w r whole l P P' → Quiet P.state P'.state
-  worked_quiet f f' w (Ok did) whole l P P' h = turn_quiet (setting_of l) l.workers l.streams style w f f' P P' h.1
-  worked_quiet f f' w (Err e) whole l P P' h = quiet_same P P' (same_run P P' f f' h)
+  pub worker_quiet : (f f' : Peeks) (w : ℕ) (whole : Bool) (l : Load) (P P' : Progress) → worker_turned style f f' w whole l P P' → Quiet P.state P'.state
+  worker_quiet f f' w true l P P' h = turn_quiet (setting_of l) l.workers l.streams style w f f' P P' h
+  worker_quiet f f' w false l P P' h = quiet_same P P' (same_run P P' f f' h)
 
-  pub worked_silent : (f f' : Peeks) (w : ℕ) (r : Result Bool NoMemory) (whole : Bool) (l : Load) (P P' : Progress) → worked_by style f f' w r whole l P P' → Silent P P'
-  worked_silent f f' w (Ok did) whole l P P' h = turn_silent (setting_of l) l.workers l.streams style w f f' P P' h.1
-  worked_silent f f' w (Err e) whole l P P' h = ap (λ (X : Progress). flushed_in X.events) (same_run P P' f f' h)
+  pub worker_silent : (f f' : Peeks) (w : ℕ) (whole : Bool) (l : Load) (P P' : Progress) → worker_turned style f f' w whole l P P' → Silent P P'
+  worker_silent f f' w true l P P' h = turn_silent (setting_of l) l.workers l.streams style w f f' P P' h
+  worker_silent f f' w false l P P' h = ap (λ (X : Progress). flushed_in X.events) (same_run P P' f f' h)
 
   -- a worker that has nothing to do
   pub worked_still : (f f' : Peeks) (w : ℕ) (l : Load) (P P' : Progress) → turns_now l P f w ≡ false → turned_in style w f f' l P P' → peeked P' f' ≡ peeked P f

@@ -6,7 +6,7 @@ use Rattle.std.proofs.lemmas.Bool.Decides.{nat_tests}
 use Rattle.tau_base.specs.declared.value.NoMemory.{NoMemory}
 use Rattle.tau_model.specs.History.{Act}
 use Rattle.tau_machine.specs.Hands.{Txn}
-use Rattle.tau_machine.specs.State.{Setting}
+use Rattle.tau_occ.specs.declared.style.Style.{Style}
 use Rattle.tau_machine.specs.Events as machine
 use Rattle.tau_text.specs.declared.load.Turn.TheVariants as turn
 use Rattle.tau_core.specs.declared.state.Load.{Load}
@@ -14,19 +14,20 @@ use Rattle.tau_core.specs.State.{Plain}
 use Rattle.tau_core.specs.View.{Hidden, core_of, setting_of, worker_at}
 use Rattle.tau_core.specs.Stands.{Stands, Stood}
 use Rattle.tau_run.specs.Turns.{Progress, is_going, is_raised, is_empty}
-use Rattle.tau_step.specs.TurnParts.{Worked, Managed, has_work}
+use Rattle.tau_step.specs.Optimists.{Peeks}
+use Rattle.tau_step.specs.TurnParts.{Managed}
 use Rattle.tau_step.specs.declared.run.Run.{Run}
 use Rattle.tau_step.specs.Acting.{WorkerTurned}
 use Rattle.tau_step.specs.Along.{Quiet}
 use Rattle.tau_step.specs.RunEffects.{Works, total_left}
 use Rattle.tau_step.specs.Progressed.{Comes, stays, anchors, drops}
 use Rattle.tau_step.specs.Remains.{sum_below, worker_left}
-use Rattle.tau_step.specs.Rounding.{turned, alone_by}
+use Rattle.tau_step.specs.Rounding.{turned, alone_by, turns_now, worked_by, worker_turned}
 use Rattle.tau_step.proofs.Deciding.{if_not}
 use Rattle.tau_step.proofs.Fitting.{stands_tries}
 use Rattle.tau_step.proofs.EffectsInTurn.{works_as, works_none}
 use Rattle.tau_step.proofs.Totals.{worked_total}
-use Rattle.tau_step.proofs.Turning.{worked_grows, worked_same, anchored_grows, anchored_same, removed_grows, removed_same}
+use Rattle.tau_step.proofs.Turning.{anchored_grows, anchored_same, removed_grows, removed_same}
 use Rattle.tau_base.proofs.Logic.{first_not}
 
 not_below : (a b : ℕ) → b ≤ a → nat_lt a b ≡ false
@@ -58,16 +59,17 @@ module _ (old new : Run) (clerk : new.clerk ≡ old.clerk) (failed : new.failed 
   pub removal_works : ((K : List (Act Txn)) (h : Hidden) (es : List machine.Event) (told : List (ℕ × List ℕ)) → Stands old.core K h → Comes (drops true) old.core new.core told told K h es) → Works (turned turn.Drop) true old new
   removal_works all = works_of (turned turn.Drop) true (λ K h es told g. all K h es told g)
 
+-- as the turn word of the worker
+pub word_works : (style : Style) (f f' : Peeks) (w : ℕ) (old new : Run) (r : Result Bool NoMemory) → Works (worked_by style f f' w r) (is_ok r) old new → Works (worker_turned style f f' w) (is_ok r) old new
+word_works style f f' w old new (Ok did) x = works_as (worked_by style f f' w (Ok did)) (worker_turned style f f' w) true true old new (λ l P P' q. q.1) x
+word_works style f f' w old new (Err e) x = works_as (worked_by style f f' w (Err e)) (worker_turned style f f' w) false false old new (λ l P P' q. q) x
+
 -- turn words of nobody
 
-absent_turn : (a b c : Bool) → a ≡ false → (a && (b || c)) ≡ false
-absent_turn false b c e = refl
-absent_turn true b c e = absurd (let bad : true ≡ false = e in cc)
-
-pub no_worker : (style : Style) (f : Peeks) (w : ℕ) (r : Result Bool NoMemory) (run : Run) → Stood run.core → run.core.load.workers ≤ w → Works (worked_by style f f w (Ok false)) true run run
-no_worker style f w r run stood le = works_none (worked_by style f f w (Ok false)) run stood (λ P.
-    let none = absent_turn (nat_lt w run.core.load.workers) (is_some (P.state.workers w).hand) _ (not_below w run.core.load.workers le) in
-    (sym none, if_not (turns_now run.core.load P f w) _ _ none refl))
+pub no_worker : (style : Style) (f : Peeks) (w : ℕ) (run : Run) → Stood run.core → run.core.load.workers ≤ w → Works (worker_turned style f f w) true run run
+no_worker style f w run stood le = works_none (worker_turned style f f w) run stood (λ P. if_not (turns_now run.core.load P f w) _ _
+    (first_not (nat_lt w run.core.load.workers) (is_some (P.state.workers w).hand || (not (is_empty (f w)) || (not (is_raised (setting_of run.core.load) run.core.load.workers run.core.load.streams P.state) && not (is_empty (P.state.workers w).waiting))))
+    (not_below w run.core.load.workers le)) refl)
 
 pub absent_manager : (l : Load) (j : ℕ) → l.streams ≤ j → (P : Progress) → Managed (setting_of l) l.workers l.streams j P P
 absent_manager l j le P = if_not (is_going (setting_of l) l.workers l.streams P.state j) _ _ (first_not (nat_lt j l.streams) (is_none (P.state.streams j).stop) (not_below j l.streams le)) refl

@@ -1,20 +1,24 @@
 -- What the turn of a worker in either style leaves of all that is not its own.
-use Rattle.std.proofs.Common.{ℕ, ◌≡◌, ◌⊎◌, inl, inr, Bool, List, [], refl, sym, ap, ◌∙◌}
+use Rattle.std.proofs.Common.{ℕ, ◌<◌, ◌≤◌, ◌≡◌, ◌⊎◌, inl, inr, Bool, true, List, [], ◌∷◌, ◌++◌, length, length-append, refl, sym, ap, ◌∙◌, arith}
 use Rattle.std.specs.Prelude.{is_some, not, nat_lt, ◌&&◌, ◌||◌}
+use Rattle.tau_base.specs.declared.limits.TheConstants.{MAX_STEPS}
 use Rattle.tau_base.specs.declared.value.Key.{Key}
 use Rattle.tau_base.specs.declared.value.Value.{Value}
 use Rattle.tau_machine.specs.Events.{Event, Lock, Busy, Quit, Commit, Post, Free, FirstFree, Done, DoneReading, Drop, Gather, PlaceAnchor, Persist, Ack, Stop, Resume}
 use Rattle.tau_machine.specs.State.{Setting, Core}
 use Rattle.tau_machine.specs.Worker.{Worker}
-use Rattle.tau_machine.proofs.At.{at_other}
+use Rattle.tau_machine.proofs.At.{at_same, at_other}
 use Rattle.tau_occ.specs.declared.style.Style.{Style}
 use Rattle.tau_occ.specs.declared.style.Style.TheVariants.{Locking, Optimistic}
 use Rattle.tau_run.specs.Turns.{Progress, IfSo, IsOwn, Goes, is_raised, is_empty}
 use Rattle.tau_run.specs.Schedule.{RunState, peeked, TakesTurn, has_turn, peeks_after}
 use Rattle.tau_run.proofs.Steps.{if_known}
 use Rattle.tau_step.specs.Along.{Quiet, Silent, Spares}
-use Rattle.tau_step.specs.Optimists.{Peeks}
+use Rattle.tau_step.specs.Optimists.{Peeks, turns_left}
+use Rattle.tau_step.specs.Remains.{worker_left}
+use Rattle.tau_step.proofs.Falling.{HasTries, own_falls}
 use Rattle.tau_step.proofs.Growing.{grows, spared}
+use Rattle.tau_step.proofs.Idling.{if_then}
 use Rattle.tau_step.proofs.Others.{own_others, own_streams, raised_same}
 use Rattle.tau_step.proofs.Rounding.{quiet_same}
 use Rattle.tau_step.proofs.Silent.{own_silent, goes_silent, stays_silent}
@@ -109,3 +113,17 @@ module _ (set : Setting) (m n : ℕ) (style : Style) (w : ℕ) (f f' : Peeks) (P
       ap (λ (wk : Worker). nat_lt u m && (is_some wk.hand || (not (is_empty (f' u)) || (not (is_raised set m n P'.state) && not (is_empty wk.waiting))))) (turn_others u ne)
       ∙ ap (λ (ps : List (Key × Value)). nat_lt u m && (is_some (P.state.workers u).hand || (not (is_empty ps) || (not (is_raised set m n P'.state) && not (is_empty (P.state.workers u).waiting))))) (turn_peeks u ne)
       ∙ ap (λ (b : Bool). nat_lt u m && (is_some (P.state.workers u).hand || (not (is_empty (f u)) || (not b && not (is_empty (P.state.workers u).waiting))))) turn_raised
+
+  falls : HasTries (P.state.workers w) → length (f' w) ≤ MAX_STEPS → (s : Style) → TakesTurn set m n s w (peeked P f) (peeked P' f') → turns_left set.procs (P'.state.workers w) (f' w) < turns_left set.procs (P.state.workers w) (f w)
+  falls tries few Locking a = let less = own_falls set w a.event a.own P.state P'.state a.goes.new tries a.goes.leads in omega (arith, few, less)
+  falls tries few Optimistic (inl p) =
+      let more : List (Key × Value) = (p.key, (P.state.shards (set.shard_of p.key)).rows p.key) ∷ [] in
+      let seen : f' w ≡ f w ++ more = ap (λ (z : RunState). z.peeks w) p.after ∙ at_same w (f w ++ more) f in
+      let long = ap (length {A = Key × Value}) seen ∙ length-append (f w) more in
+      let same = ap (λ (z : RunState). worker_left set.procs (z.progress.state.workers w)) p.after in
+      omega (arith, few, long, same)
+  falls tries few Optimistic (inr a) = let less = own_falls set w a.1.event a.1.own P.state P'.state a.1.goes.new tries a.1.goes.leads in omega (arith, few, less)
+
+  -- what the worker has still to do is less
+  pub turn_falls : HasTries (P.state.workers w) → length (f' w) ≤ MAX_STEPS → has_turn set m n (peeked P f) w ≡ true → turns_left set.procs (P'.state.workers w) (f' w) < turns_left set.procs (P.state.workers w) (f w)
+  turn_falls tries few works = falls tries few style (if_then (has_turn set m n (peeked P f) w) _ _ works turned)

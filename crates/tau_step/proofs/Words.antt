@@ -3,8 +3,6 @@ use Rattle.std.proofs.Common.{ℕ, suc, ◌+◌, ◌<◌, ◌≤◌, ◌≡◌, 
 use Rattle.std.proofs.lemmas.List.{drop_all}
 use Rattle.tau_disk.specs.declared.disk.Disk.{Ghosts}
 use Rattle.tau_stream.specs.declared.writer.Writer.{Writer}
-use Rattle.std.specs.Prelude.{Result, Ok, Err, is_ok}
-use Rattle.tau_base.specs.declared.value.NoMemory.{NoMemory}
 use Rattle.tau_occ.specs.declared.style.Style.{Style}
 use Rattle.tau_text.specs.declared.load.Turn.{Turn}
 use Rattle.tau_text.specs.declared.load.Turn.TheVariants as turn
@@ -19,9 +17,9 @@ use Rattle.tau_step.proofs.ToSteps.{IsOther}
 use Rattle.tau_step.specs.declared.run.Run.{Run}
 use Rattle.tau_step.specs.Along.{Quiet, Silent}
 use Rattle.tau_step.specs.RunEffects.{IsOn, Works, Manages, Moves}
-use Rattle.tau_step.specs.Rounding.{becomes, leaves, ran, kept, worked_by, clerked, turned, turned_all}
+use Rattle.tau_step.specs.Rounding.{becomes, leaves, ran, kept, worker_turned, clerked, turned, turned_all}
 use Rattle.tau_step.proofs.EffectsInTurn.{works_manages, manages_moves, moves_on, moves_as}
-use Rattle.tau_step.proofs.RoundSteps.{worked_quiet, worked_silent}
+use Rattle.tau_step.proofs.RoundSteps.{worker_quiet, worker_silent}
 use Rattle.tau_step.proofs.Scheduled.{left_after}
 
 next_left : {A : Type 0} (xs : List A) (i : ℕ) (x d : A) → i < length xs → x ≡ get_or xs i d → drop i xs ≡ x ∷ drop (i + 1) xs
@@ -33,9 +31,9 @@ word_kept t other true l P P' h = λ style f. to_steps.turned (setting_of l) l.w
 word_kept t other false l P P' h = λ style f. to_steps.turned_part (setting_of l) l.workers l.streams style f t P P' h
 
 -- and of a worker
-pub worker_ran : (style : Style) (f f' : Peeks) (w : ℕ) (r : Result Bool NoMemory) (l : Load) (P P' : Progress) → worked_by style f f' w r (is_ok r) l P P' → ran style f f' (Word (turn.Worker w) ∷ []) (is_ok r) l P P'
-worker_ran style f f' w (Ok did) l P P' h = to_steps.worked (setting_of l) l.workers l.streams style f w f' P P' h.1
-worker_ran style f f' w (Err e) l P P' h = subst (λ (x : RunState). Began (setting_of l) l.workers l.streams style (Word (turn.Worker w) ∷ []) (peeked P f) x) (sym h) (began_none (setting_of l) l.workers l.streams style (Word (turn.Worker w) ∷ []) (peeked P f))
+worker_ran : (style : Style) (f f' : Peeks) (w : ℕ) (whole : Bool) (l : Load) (P P' : Progress) → worker_turned style f f' w whole l P P' → ran style f f' (Word (turn.Worker w) ∷ []) whole l P P'
+worker_ran style f f' w true l P P' h = to_steps.worked (setting_of l) l.workers l.streams style f w f' P P' h
+worker_ran style f f' w false l P P' h = subst (λ (x : RunState). Began (setting_of l) l.workers l.streams style (Word (turn.Worker w) ∷ []) (peeked P f) x) (sym h) (began_none (setting_of l) l.workers l.streams style (Word (turn.Worker w) ∷ []) (peeked P f))
 
 -- the words from number i on are left
 abbrev pub words_left : Style → Peeks → Peeks → List Turn → ℕ → Bool → Load → Progress → Progress → Type 0
@@ -58,10 +56,10 @@ module _ {D : Type 0} {G : Ghosts D} (seen_now : (d : D) → G.tells → G.may_l
 
 module _ {D : Type 0} {G : Ghosts D} (seen_now : (d : D) → G.tells → G.may_leave d (G.seen d)) (hears : Type 0) (style : Style) where
   -- a turn word of a worker
-  pub worker_moves : (f f' : Peeks) (t : Turn) (w : ℕ) (r : Result Bool NoMemory) (old new : Run) (ws : List (Writer D G)) (held : List ℕ) (faults : ℕ) → t ≡ turn.Worker w → IsOn ws old → Works (worked_by style f f' w r) (is_ok r) old new → Moves (ran style f f' (Word t ∷ [])) (is_ok r) old new ws ws hears held held faults faults
-  worker_moves f f' t w r old new ws held faults e on x = subst (λ (u : Turn). Moves (ran style f f' (Word u ∷ [])) (is_ok r) old new ws ws hears held held faults faults) (sym e)
-      (moves_as seen_now hears (worked_by style f f' w r) (ran style f f' (Word (turn.Worker w) ∷ [])) (is_ok r) old new ws ws held held faults faults (worker_ran style f f' w r)
-      (manages_moves seen_now hears (worked_by style f f' w r) (is_ok r) old new ws ws held faults (works_manages seen_now (worked_by style f f' w r) (is_ok r) old new ws on (worked_quiet style f f' w r (is_ok r)) (λ l P P' e q. worked_silent style f f' w r (is_ok r) l P P' q) x)))
+  pub worker_moves : (f f' : Peeks) (t : Turn) (w : ℕ) (whole : Bool) (old new : Run) (ws : List (Writer D G)) (held : List ℕ) (faults : ℕ) → t ≡ turn.Worker w → IsOn ws old → Works (worker_turned style f f' w) whole old new → Moves (ran style f f' (Word t ∷ [])) whole old new ws ws hears held held faults faults
+  worker_moves f f' t w whole old new ws held faults e on x = subst (λ (u : Turn). Moves (ran style f f' (Word u ∷ [])) whole old new ws ws hears held held faults faults) (sym e)
+      (moves_as seen_now hears (worker_turned style f f' w) (ran style f f' (Word (turn.Worker w) ∷ [])) whole old new ws ws held held faults faults (worker_ran style f f' w whole)
+      (manages_moves seen_now hears (worker_turned style f f' w) whole old new ws ws held faults (works_manages seen_now (worker_turned style f f' w) whole old new ws on (worker_quiet style f f' w whole) (λ l P P' e q. worker_silent style f f' w whole l P P' q) x)))
 
   module _ (turns : List Turn) (i : ℕ) (t d : Turn) (lt : i < length turns) (is : t ≡ get_or turns i d) (f g h : Peeks) (old mid new : Run) (ws ms ws' : List (Writer D G)) (held held' held'' : List ℕ) (faults faults' faults'' : ℕ)
       (x : Moves (words_left style f g turns i) true old mid ws ms hears held held' faults faults') where

@@ -1,5 +1,5 @@
 -- The turn of a worker in a style, with what the workers have peeked before it and after it.
-use Rattle.std.specs.Prelude.{Result, Ok, Err, ℕ, ◌≡◌, ◌⊎◌, ◌+◌, ◌-◌, ◌*◌, Bool, true, Option, Some, None, List, [], ◌∷◌, ◌++◌, length, slice_get}
+use Rattle.std.specs.Prelude.{Result, Ok, Err, ℕ, ◌≡◌, ◌⊎◌, ◌+◌, ◌-◌, ◌*◌, Bool, true, Option, Some, None, List, [], ◌∷◌, ◌++◌, length, replicate, slice_get}
 use Rattle.std.specs.Map.{lookup}
 use Rattle.tau_base.specs.Database.{same_key}
 use Rattle.tau_base.specs.Shards.{shard_number}
@@ -33,7 +33,7 @@ use Rattle.tau_proc.specs.declared.proc.Proc.{Proc}
 use Rattle.tau_run.specs.Fits.{Fits}
 use Rattle.tau_run.specs.Turns.{Progress, IfSo}
 use Rattle.tau_run.specs.Schedule.{TakesTurn, has_turn, peeked}
-use Rattle.tau_occ.specs.Peeker.{PlainPeeker, IsPeeking}
+use Rattle.tau_occ.specs.Peeker.{PlainPeeker, IsPeeking, blank_peeker}
 use Rattle.tau_step.specs.Progressed.{progress, stays, Comes}
 
 abbrev pub Peeks : Type 0
@@ -82,18 +82,22 @@ seen_in (Some q) = q.seen
 abbrev pub peeks_of : List PlainPeeker → Peeks
 peeks_of qs w = seen_in (slice_get qs w)
 
--- each optimistic worker has a peeker, which fits its call; in the style Locking there is none
-pub record AllFit (p : Plain) (qs : List PlainPeeker) : Type 0 where
+-- the core stands on this workload, and each optimistic worker has a peeker, which fits its call
+pub record AllFit (load : Workload) (p : Plain) (qs : List PlainPeeker) : Type 0 where
+  pub procs : load.declarations.procs ≡ p.load.procs
+  pub calls : load.calls ≡ p.load.calls
   pub count : length qs ≡ p.load.workers
   pub each : (w : ℕ) (q : PlainPeeker) → slice_get qs w ≡ Some q → PeekerFits p w q
 
-abbrev pub AreFit : Style → Plain → List PlainPeeker → Type 0
-AreFit Locking p qs = qs ≡ []
-AreFit Optimistic p qs = AllFit p qs
+-- in the style Locking there is no peeker
+abbrev pub AreFit : Style → Workload → Plain → List PlainPeeker → Type 0
+AreFit Locking load p qs = qs ≡ []
+AreFit Optimistic load p qs = AllFit load p qs
 
--- the core stands on this workload
-abbrev pub IsOfLoad : Workload → Plain → Type 0
-IsOfLoad load p = (load.declarations.procs ≡ p.load.procs) × (load.calls ≡ p.load.calls)
+-- the peekers of a run that has not begun
+abbrev pub blank_peekers : Style → ℕ → List PlainPeeker
+blank_peekers Locking m = []
+blank_peekers Optimistic m = replicate m blank_peeker
 
 -- what a worker has still to do, at most: each of its events, and between two of them as many peeks as a call can make
 abbrev pub turns_left : List Proc → Worker → List (Key × Value) → ℕ

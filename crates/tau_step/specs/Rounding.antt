@@ -155,7 +155,12 @@ abbrev pub worked_by : Style → Peeks → Peeks → ℕ → Result Bool NoMemor
 worked_by style f f' w (Ok acted) whole l P P' = (acted ≡ turns_now l P f w) × turned_in style w f f' l P P'
 worked_by style f f' w (Err e) whole l P P' = peeked P' f' ≡ peeked P f
 
--- and of one that acts alone
+-- the turn word of a worker
+abbrev pub worker_turned : Style → Peeks → Peeks → ℕ → Bool → Load → Progress → Progress → Type 0
+worker_turned style f f' w true l P P' = turned_in style w f f' l P P'
+worker_turned style f f' w false l P P' = peeked P' f' ≡ peeked P f
+
+-- the turn of one that acts alone
 abbrev pub alone_by : ℕ → Result Bool NoMemory → Bool → Load → Progress → Progress → Type 0
 alone_by w (Ok acted) whole l P P' = (acted ≡ has_work (setting_of l) l.workers l.streams P.state w) × Worked (setting_of l) l.workers l.streams w P P'
 alone_by w (Err e) whole l P P' = Stays P P'

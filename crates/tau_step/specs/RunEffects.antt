@@ -5,6 +5,7 @@ use Rattle.tau_disk.specs.declared.disk.Disk.{Ghosts}
 use Rattle.tau_stream.specs.declared.writer.Writer.{Writer}
 use Rattle.tau_model.specs.History.{Act}
 use Rattle.tau_machine.specs.Hands.{Txn}
+use Rattle.tau_machine.specs.Worker.{Worker}
 use Rattle.tau_machine.specs.Events.{Event}
 use Rattle.tau_core.specs.declared.state.Load.{Load}
 use Rattle.tau_core.specs.State.{Plain}
@@ -23,6 +24,11 @@ use Rattle.tau_step.specs.Remains.{sum_below, worker_left}
 -- how much is left of all workers
 abbrev pub total_left : Plain → ℕ
 total_left p = sum_below (λ w. worker_left p.load.procs (worker_at p w)) p.load.workers
+
+-- the workers are as they were
+pub record SameWorkers (p p' : Plain) : Type 0 where
+  pub load : p'.load ≡ p.load
+  pub workers : ◌≡◌ {A = ℕ → Worker} (λ w. worker_at p' w) (λ w. worker_at p w)
 
 -- how many calls are left over
 abbrev pub calls_over : Plain → ℕ

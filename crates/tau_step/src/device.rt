@@ -19,12 +19,11 @@ ghost use Rattle.tau_step.specs.Device.{IsDeviceOrder, IsFlushOrder, IsOfRun};
 use crate::clerk::Clerk;
 use crate::flushes::Flushes;
 use crate::run::Run;
-use crate::top::peekers_of;
 use std::alloc::Global;
 use tau_base::{Listed, LogMode, NoMemory};
 use tau_core::Core;
-use tau_occ::Style;
 use tau_disk::{Disk, Failed, Sink};
+use tau_occ::Style;
 use tau_open::open_streams;
 use tau_stream::Writer;
 use tau_text::{Workload, print_declarations};
@@ -162,7 +161,7 @@ fn flushes_of(
         flushes: Flushes::new(alloc, true),
         body: Vec::new(alloc),
     };
-    let mut peekers = peekers_of(alloc, Style::Locking, m)?;
+    let mut peekers = Vec::new(alloc);
     run.all(Style::Locking, load, &mut peekers, writers, &mut NoSink)?;
     flushes_in(run)
 }

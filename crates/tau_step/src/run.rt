@@ -12,9 +12,11 @@ ghost use Rattle.tau_run.specs.Schedule.{Word};
 ghost use Rattle.tau_run.specs.StopsLeave.{NamesLowest, stops_in};
 ghost use Rattle.tau_run.specs.Heard.{Heard};
 ghost use Rattle.tau_step.specs.Acting.{IsAlone, IsSettling, Settles};
-ghost use Rattle.tau_step.specs.RunEffects.{IsOn, Manages, Moves, Works, calls_over, rests_in, to_flush, total_left};
+ghost use Rattle.tau_occ.specs.declared.style.Style.TheVariants.{Optimistic};
+ghost use Rattle.tau_step.specs.Optimists.{AllFit, AreFit, all_turns_left, peeks_of};
+ghost use Rattle.tau_step.specs.RunEffects.{IsOn, Manages, Moves, SameWorkers, Works, calls_over, rests_in, to_flush, total_left};
 ghost use Rattle.tau_step.specs.Progressed.{clerks};
-ghost use Rattle.tau_step.specs.Rounding.{acted_alone, all_idled, all_managed, drained, flushed_by, idled, in_rounds, managed_by, ran_all, ran_behind, ran, ran_last, ran_left_over, rest_of_round, resumed_by, round_by, rounded_by, turned, turned_all, worked_by};
+ghost use Rattle.tau_step.specs.Rounding.{acted_alone, all_idled, alone_by, all_managed, drained, flushed_by, idled, in_rounds, managed_by, none_peeked, ran_all, ran_behind, ran, ran_last, ran_left_over, rest_of_round, resumed_by, round_by, rounded_by, turned, turned_all, worked_by, worker_turned};
 ghost use Rattle.tau_step.specs.Telling.{Passed};
 
 use crate::clerk::Clerk;
@@ -76,26 +78,46 @@ impl Run {
         requires stood { Stood self.old.core }
         requires there { worker < self.old.core.load.workers }
         requires lowest { NamesLowest self.old.core.load.streams (stops_in (core_of self.old.core nothing)) self.old.failed }
-        ensures works { Works (worked_by worker result) (is_ok result) self.old self.new }
-        ensures fewer { result ≡ Ok true → total_left self.new.core < total_left self.old.core }
-        ensures alone { IsAlone worker self.old.core → IsSettling worker self.old.core → Settles worker self.old.core self.new.core }
+        requires fit { AreFit style load.now self.old.core peekers.old.items }
+        ensures works { Works (worked_by style (peeks_of peekers.old.items) (peeks_of peekers.new.items) worker result) (is_ok result) self.old self.new }
+        ensures fit { OnOk result (AreFit style load.now self.new.core peekers.new.items) }
+        ensures fewer { result ≡ Ok true → all_turns_left self.new.core (peeks_of peekers.new.items) < all_turns_left self.old.core (peeks_of peekers.old.items) }
     {
-        let stopped = self.failed.is_some();
         match style {
-            Style::Locking => worker_turn(&mut self.core, worker, stopped),
-            Style::Optimistic => optimistic_turn(
-                &mut self.core,
-                &mut peekers[usize::from(worker)],
-                load,
-                worker,
-                stopped,
-            ),
+            Style::Locking => self.work_alone(worker),
+            Style::Optimistic => self.work_peeking(load, peekers, worker),
         }
     }
 
     /// A turn of a worker in the style Locking, and whether it did anything.
-    fn work_alone(&mut self, worker: u8) -> Result<bool, NoMemory> {
+    fn work_alone(&mut self, worker: u8) -> Result<bool, NoMemory>
+        requires stood { Stood self.old.core }
+        requires there { worker < self.old.core.load.workers }
+        requires lowest { NamesLowest self.old.core.load.streams (stops_in (core_of self.old.core nothing)) self.old.failed }
+        ensures works { Works (alone_by worker result) (is_ok result) self.old self.new }
+        ensures fewer { result ≡ Ok true → total_left self.new.core < total_left self.old.core }
+        ensures alone { IsAlone worker self.old.core → IsSettling worker self.old.core → Settles worker self.old.core self.new.core }
+    {
         worker_turn(&mut self.core, worker, self.failed.is_some())
+    }
+
+    /// A turn of an optimistic worker, and whether it did anything.
+    fn work_peeking(
+        &mut self,
+        load: &Workload,
+        peekers: &mut Vec<Peeker>,
+        worker: u8,
+    ) -> Result<bool, NoMemory>
+        requires stood { Stood self.old.core }
+        requires there { worker < self.old.core.load.workers }
+        requires lowest { NamesLowest self.old.core.load.streams (stops_in (core_of self.old.core nothing)) self.old.failed }
+        requires fit { AllFit load.now self.old.core peekers.old.items }
+        ensures works { Works (worked_by Optimistic (peeks_of peekers.old.items) (peeks_of peekers.new.items) worker result) (is_ok result) self.old self.new }
+        ensures fit { OnOk result (AllFit load.now self.new.core peekers.new.items) }
+    {
+        let at = usize::from(worker);
+        let stopped = self.failed.is_some();
+        optimistic_turn(&mut self.core, &mut peekers[at], load, worker, stopped)
     }
 
     /// A turn of a manager.
@@ -107,7 +129,7 @@ impl Run {
         requires on { IsOn writers.old.items self.old }
         requires there { stream < self.old.streams }
         ensures manages { Manages (managed_by stream result) (is_ok result) self.old self.new writers.old.items writers.new.items }
-        ensures left { OnOk result (total_left self.new.core ≡ total_left self.old.core) }
+        ensures same { OnOk result (SameWorkers self.old.core self.new.core) }
         ensures fewer { result ≡ Ok Managing.Flushed → to_flush self.new.core stream < to_flush self.old.core stream }
     {
         let at = usize::from(stream);
@@ -154,7 +176,9 @@ impl Run {
         requires stood { Stood self.old.core }
         requires workers { self.old.workers ≡ self.old.core.load.workers }
         requires lowest { NamesLowest self.old.core.load.streams (stops_in (core_of self.old.core nothing)) self.old.failed }
-        ensures works { Works (turned (Turn.Worker worker)) (is_ok result) self.old self.new }
+        requires fit { AreFit style load.now self.old.core peekers.old.items }
+        ensures works { Works (worker_turned style (peeks_of peekers.old.items) (peeks_of peekers.new.items) worker) (is_ok result) self.old self.new }
+        ensures fit { OnOk result (AreFit style load.now self.new.core peekers.new.items) }
     {
         if worker >= self.workers {
             return Ok(());
@@ -210,7 +234,9 @@ impl Run {
         turn: Turn,
     ) -> Result<(), NoMemory>
         requires on { IsOn writers.old.items self.old }
-        ensures moves { Moves (ran (Word turn ∷ [])) (is_ok result) self.old self.new writers.old.items writers.new.items K.tells (K.held sink.old) (K.held sink.new) (K.faults sink.old) (K.faults sink.new) }
+        requires fit { AreFit style load.now self.old.core peekers.old.items }
+        ensures moves { Moves (ran style (peeks_of peekers.old.items) (peeks_of peekers.new.items) (Word turn ∷ [])) (is_ok result) self.old self.new writers.old.items writers.new.items K.tells (K.held sink.old) (K.held sink.new) (K.faults sink.old) (K.faults sink.new) }
+        ensures fit { OnOk result (AreFit style load.now self.new.core peekers.new.items) }
     {
         match turn {
             Turn::Worker(worker) => self.worker_word(style, load, peekers, worker),
@@ -235,7 +261,9 @@ impl Run {
         turns: &[Turn],
     ) -> Result<(), NoMemory>
         requires on { IsOn writers.old.items self.old }
-        ensures moves { Moves (turned_all turns.now) (is_ok result) self.old self.new writers.old.items writers.new.items K.tells (K.held sink.old) (K.held sink.new) (K.faults sink.old) (K.faults sink.new) }
+        requires fit { AreFit style load.now self.old.core peekers.old.items }
+        ensures moves { Moves (turned_all style (peeks_of peekers.old.items) (peeks_of peekers.new.items) turns.now) (is_ok result) self.old self.new writers.old.items writers.new.items K.tells (K.held sink.old) (K.held sink.new) (K.faults sink.old) (K.faults sink.new) }
+        ensures fit { OnOk result (AreFit style load.now self.new.core peekers.new.items) }
     {
         for turn in turns {
             self.turn(style, load, peekers, writers, sink, *turn)?;
@@ -253,8 +281,10 @@ impl Run {
         requires stood { Stood self.old.core }
         requires workers { self.old.workers ≡ self.old.core.load.workers }
         requires lowest { NamesLowest self.old.core.load.streams (stops_in (core_of self.old.core nothing)) self.old.failed }
-        ensures works { Works (rounded_by result) (is_ok result) self.old self.new }
-        ensures fewer { result ≡ Ok true → total_left self.new.core < total_left self.old.core }
+        requires fit { AreFit style load.now self.old.core peekers.old.items }
+        ensures works { Works (rounded_by style (peeks_of peekers.old.items) (peeks_of peekers.new.items) result) (is_ok result) self.old self.new }
+        ensures fit { OnOk result (AreFit style load.now self.new.core peekers.new.items) }
+        ensures fewer { result ≡ Ok true → all_turns_left self.new.core (peeks_of peekers.new.items) < all_turns_left self.old.core (peeks_of peekers.old.items) }
     {
         let mut any = false;
         for worker in 0..self.workers {
@@ -268,7 +298,7 @@ impl Run {
     fn managers_round<D: Disk>(&mut self, writers: &mut Vec<Writer<D>>) -> Result<(), NoMemory>
         requires on { IsOn writers.old.items self.old }
         ensures manages { Manages all_managed (is_ok result) self.old self.new writers.old.items writers.new.items }
-        ensures left { OnOk result (total_left self.new.core ≡ total_left self.old.core) }
+        ensures same { OnOk result (SameWorkers self.old.core self.new.core) }
     {
         for stream in 0..self.streams {
             self.manage(writers, stream)?;
@@ -284,7 +314,7 @@ impl Run {
     ) -> Result<bool, NoMemory>
         requires on { IsOn writers.old.items self.old }
         ensures moves { Moves rest_of_round (is_ok result) self.old self.new writers.old.items writers.new.items K.tells (K.held sink.old) (K.held sink.new) (K.faults sink.old) (K.faults sink.new) }
-        ensures left { OnOk result (total_left self.new.core ≡ total_left self.old.core) }
+        ensures same { OnOk result (SameWorkers self.old.core self.new.core) }
         ensures some { result ≡ Ok false → ⊥ }
     {
         self.managers_round(writers)?;
@@ -302,9 +332,11 @@ impl Run {
         sink: &mut K,
     ) -> Result<bool, NoMemory>
         requires on { IsOn writers.old.items self.old }
-        ensures rests { result ≡ Ok false → rests_in self.new.core }
-        ensures moves { Moves (round_by result) (is_ok result) self.old self.new writers.old.items writers.new.items K.tells (K.held sink.old) (K.held sink.new) (K.faults sink.old) (K.faults sink.new) }
-        ensures fewer { result ≡ Ok true → total_left self.new.core < total_left self.old.core }
+        requires fit { AreFit style load.now self.old.core peekers.old.items }
+        ensures rests { result ≡ Ok false → rests_in self.new.core × (peeks_of peekers.new.items ≡ none_peeked) }
+        ensures moves { Moves (round_by style (peeks_of peekers.old.items) (peeks_of peekers.new.items) result) (is_ok result) self.old self.new writers.old.items writers.new.items K.tells (K.held sink.old) (K.held sink.new) (K.faults sink.old) (K.faults sink.new) }
+        ensures fit { OnOk result (AreFit style load.now self.new.core peekers.new.items) }
+        ensures fewer { result ≡ Ok true → all_turns_left self.new.core (peeks_of peekers.new.items) < all_turns_left self.old.core (peeks_of peekers.old.items) }
     {
         match self.workers_round(style, load, peekers)? {
             false => Ok(false),
@@ -322,8 +354,10 @@ impl Run {
         sink: &mut K,
     ) -> Result<(), NoMemory>
         requires on { IsOn writers.old.items self.old }
-        ensures moves { Moves in_rounds (is_ok result) self.old self.new writers.old.items writers.new.items K.tells (K.held sink.old) (K.held sink.new) (K.faults sink.old) (K.faults sink.new) }
+        requires fit { AreFit style load.now self.old.core peekers.old.items }
+        ensures moves { Moves (in_rounds style (peeks_of peekers.old.items) (peeks_of peekers.new.items)) (is_ok result) self.old self.new writers.old.items writers.new.items K.tells (K.held sink.old) (K.held sink.new) (K.faults sink.old) (K.faults sink.new) }
         ensures rests { OnOk result (rests_in self.new.core) }
+        ensures none { OnOk result (peeks_of peekers.new.items ≡ none_peeked) }
     {
         'rounds: while self.round(style, load, peekers, writers, sink)? {}
         Ok(())
@@ -442,7 +476,9 @@ impl Run {
         sink: &mut K,
     ) -> Result<(), NoMemory>
         requires on { IsOn writers.old.items self.old }
-        ensures moves { Moves (turned_all (turns_of load.now)) (is_ok result) self.old self.new writers.old.items writers.new.items K.tells (K.held sink.old) (K.held sink.new) (K.faults sink.old) (K.faults sink.new) }
+        requires fit { AreFit style load.now self.old.core peekers.old.items }
+        ensures moves { Moves (turned_all style (peeks_of peekers.old.items) (peeks_of peekers.new.items) (turns_of load.now)) (is_ok result) self.old self.new writers.old.items writers.new.items K.tells (K.held sink.old) (K.held sink.new) (K.faults sink.old) (K.faults sink.new) }
+        ensures fit { OnOk result (AreFit style load.now self.new.core peekers.new.items) }
     {
         match &load.turns {
             Some(turns) => self.words(style, load, peekers, writers, sink, turns.as_slice()),
@@ -460,7 +496,8 @@ impl Run {
         sink: &mut K,
     ) -> Result<(), NoMemory>
         requires on { IsOn writers.old.items self.old }
-        ensures moves { Moves (ran_all (turns_of load.now)) (is_ok result) self.old self.new writers.old.items writers.new.items K.tells (K.held sink.old) (K.held sink.new) (K.faults sink.old) (K.faults sink.new) }
+        requires fit { AreFit style load.now self.old.core peekers.old.items }
+        ensures moves { Moves (ran_all style (peeks_of peekers.old.items) (peeks_of peekers.new.items) (turns_of load.now)) (is_ok result) self.old self.new writers.old.items writers.new.items K.tells (K.held sink.old) (K.held sink.new) (K.faults sink.old) (K.faults sink.new) }
     {
         self.named(style, load, peekers, writers, sink)?;
         self.behind_words(style, load, peekers, writers, sink)
@@ -476,7 +513,8 @@ impl Run {
         sink: &mut K,
     ) -> Result<(), NoMemory>
         requires on { IsOn writers.old.items self.old }
-        ensures moves { Moves ran_behind (is_ok result) self.old self.new writers.old.items writers.new.items K.tells (K.held sink.old) (K.held sink.new) (K.faults sink.old) (K.faults sink.new) }
+        requires fit { AreFit style load.now self.old.core peekers.old.items }
+        ensures moves { Moves (ran_behind style (peeks_of peekers.old.items) (peeks_of peekers.new.items)) (is_ok result) self.old self.new writers.old.items writers.new.items K.tells (K.held sink.old) (K.held sink.new) (K.faults sink.old) (K.faults sink.new) }
     {
         self.rounds(style, load, peekers, writers, sink)?;
         self.behind_rounds(writers, sink)

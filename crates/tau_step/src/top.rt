@@ -1,17 +1,19 @@
 //! Runs by turns.
-ghost use Rattle.std.specs.Prelude.{ℕ, ◌≡◌, ◌≤◌, List, length};
+ghost use Rattle.std.specs.Prelude.{ℕ, ◌≡◌, ◌≤◌, IfOk, List, length, replicate};
 ghost use Rattle.tau_base.specs.declared.limits.TheConstants.{MAX_CATALOGUE, MAX_WORKERS};
 ghost use Rattle.tau_base.specs.Modes.{format_of, most_streams};
 ghost use Rattle.tau_disk.specs.Disk.{Rose};
 ghost use Rattle.tau_text.specs.Canonical.{declarations_text};
 ghost use Rattle.tau_text.specs.Kept.{AreCalls};
 ghost use Rattle.tau_core.specs.Opens.{Fits, Opened};
+ghost use Rattle.tau_occ.specs.Peeker.{blank_peeker};
 ghost use Rattle.tau_occ.specs.declared.style.Style.TheVariants.{Locking};
 ghost use Rattle.tau_run.specs.Start.{catalogue_of};
 ghost use Rattle.tau_run.specs.Gives.{Gave, GaveFrom, GaveNew};
 ghost use Rattle.tau_run.specs.RunFacts.{by_turns};
 ghost use Rattle.tau_run.specs.Writers.{AreNew, IsBegun};
 ghost use Rattle.tau_step.specs.Counts.{counting};
+ghost use Rattle.tau_step.specs.Optimists.{blank_peekers};
 
 use crate::clerk::Clerk;
 use crate::end::end_of;
@@ -72,7 +74,7 @@ pub fn run_turns_from<D: Disk, K: Sink>(
     requires fits { Fits opening }
     requires begun { (bases : ℕ → List ℕ) × IsBegun (format_of mode) bases writers.old.items opening }
     ensures ran { (bases : ℕ → List ℕ) → IsBegun (format_of mode) bases writers.old.items opening →
-        GaveFrom (by_turns Locking (length opening.ends) m load.now) opening bases m mode load.now writers.old.items writers.new.items K.tells (K.held sink.old) (K.held sink.new) (Rose (K.faults sink.old) (K.faults sink.new)) result }
+        GaveFrom (by_turns style (length opening.ends) m load.now) opening bases m mode load.now writers.old.items writers.new.items K.tells (K.held sink.old) (K.held sink.new) (Rose (K.faults sink.old) (K.faults sink.new)) result }
     ensures faults { K.faults sink.old ≤ K.faults sink.new }
     ensures count { length writers.new.items ≡ length writers.old.items }
 {
@@ -92,10 +94,11 @@ fn go<D: Disk, K: Sink>(
 ) -> Result<RunEnd, NoMemory>
     requires opened { Opened core.load core }
     requires workers { m ≡ core.load.workers }
+    requires procs { load.now.declarations.procs ≡ core.load.procs }
     requires calls { load.now.calls ≡ core.load.calls }
     requires begun { (bases : ℕ → List ℕ) × IsBegun (format_of core.load.mode) bases writers.old.items core.load.opening }
     ensures ran { (bases : ℕ → List ℕ) → IsBegun (format_of core.load.mode) bases writers.old.items core.load.opening →
-        Gave (counting writers.old.items writers.new.items (by_turns Locking core.load.streams core.load.workers load.now)) bases core.load writers.old.items writers.new.items K.tells (K.held sink.old) (K.held sink.new) (Rose (K.faults sink.old) (K.faults sink.new)) result }
+        Gave (counting writers.old.items writers.new.items (by_turns style core.load.streams core.load.workers load.now)) bases core.load writers.old.items writers.new.items K.tells (K.held sink.old) (K.held sink.new) (Rose (K.faults sink.old) (K.faults sink.new)) result }
     ensures faults { K.faults sink.old ≤ K.faults sink.new }
     ensures count { length writers.new.items ≡ length writers.old.items }
 {
@@ -113,13 +116,22 @@ fn go<D: Disk, K: Sink>(
     end_of(alloc, run, load.calls.len())
 }
 
-/// What each worker of a run in this style has peeked, before it begins. In the style Locking none ever peeks.
-pub(crate) fn peekers_of(alloc: Global, style: Style, m: u8) -> Result<Vec<Peeker>, NoMemory> {
-    let mut peekers = Vec::new(alloc);
-    if style == Style::Locking {
-        return Ok(peekers);
+/// What each worker of a run in this style has peeked before it begins. In the style Locking none ever peeks.
+fn peekers_of(alloc: Global, style: Style, m: u8) -> Result<Vec<Peeker>, NoMemory>
+    ensures { IfOk result (λ peekers. peekers.items ≡ blank_peekers style m) }
+{
+    match style {
+        Style::Locking => Ok(Vec::new(alloc)),
+        Style::Optimistic => blank_peekers(alloc, m),
     }
-    for _ in 0..m {
+}
+
+/// So many workers that have peeked nothing.
+fn blank_peekers(alloc: Global, m: u8) -> Result<Vec<Peeker>, NoMemory>
+    ensures { IfOk result (λ peekers. peekers.items ≡ replicate m blank_peeker) }
+{
+    let mut peekers = Vec::new(alloc);
+    for _worker in 0..m {
         peekers.push(Peeker::new(alloc))?;
     }
     Ok(peekers)

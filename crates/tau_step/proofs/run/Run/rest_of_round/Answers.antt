@@ -2,7 +2,8 @@ use Rattle.std.proofs.Common.{refl, sym, true, false, ◌≡◌, ◌∙◌}
 use Rattle.std.specs.Prelude.{Ok, Err}
 use Rattle.std.proofs.lemmas.Result.{err_from_is_err_and}
 use Rattle.tau_step.proofs.EffectsInTurn.{clerk_moves}
-use Rattle.tau_step.proofs.Rounds.{rest_clerk, rest_managers, clerk_total}
+use Rattle.tau_step.proofs.Rounds.{rest_clerk, rest_managers}
+use Rattle.tau_step.proofs.StyleFits.{clerk_same, workers_on}
 use Rattle.tau_step.proofs.run.Run.rest_of_round.Goals as goal
 
 pub managers_round-requires : goal.managers_round-requires
@@ -20,10 +21,11 @@ returns-clause-moves g c =
     (clerk_moves g.met.D.Disk.seen_now g.K.Sink.tells c.managers_round.new.self c.clerk.new.self c.managers_round.new.writers.items (g.K.Sink.held c.args.sink.now) (g.K.Sink.held c.clerk.new.sink) (g.K.Sink.faults c.args.sink.now) (g.K.Sink.faults c.clerk.new.sink)
     (c.in_ok-managers_round.ensures.manages.on refl) c.clerk.ensures.faults c.clerk.ensures.cause c.clerk.ensures.load c.clerk.ensures.failed c.clerk.ensures.workers c.clerk.ensures.streams c.clerk.ensures.flushes (Unit {0}) (Ok tt) c.in_ok-clerk.ensures.passed c.in_ok-clerk.ensures.heard)
 
-pub returns-clause-left : goal.returns-clause-left
-returns-clause-left g c =
-    (let a = (c.in_ok-managers_round.ensures.manages.on refl).along in
-    clerk_total {A = Unit {0}} c.managers_round.new.self c.clerk.new.self g.K.Sink.tells (g.K.Sink.held c.args.sink.now) (g.K.Sink.held c.clerk.new.sink) (a.order, a.hidden, a.stands) (tt {0}) c.in_ok-clerk.ensures.passed) ∙ c.in_ok-managers_round.ensures.left
+pub returns-clause-same : goal.returns-clause-same
+returns-clause-same g c =
+    let a = (c.in_ok-managers_round.ensures.manages.on refl).along in
+    workers_on c.args.self.now.core c.managers_round.new.self.core c.clerk.new.self.core c.in_ok-managers_round.ensures.same
+    (clerk_same {A = Unit {0}} c.managers_round.new.self c.clerk.new.self g.K.Sink.tells (g.K.Sink.held c.args.sink.now) (g.K.Sink.held c.clerk.new.sink) (a.order, a.hidden, a.stands) (tt {0}) c.in_ok-clerk.ensures.passed)
 
 pub returns-clause-some : goal.returns-clause-some
 returns-clause-some g c = λ e. (let bad : Ok true ≡ Ok false = e in cc)
