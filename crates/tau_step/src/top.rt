@@ -131,7 +131,7 @@ fn blank_peekers(alloc: Global, m: u8) -> Result<Vec<Peeker>, NoMemory>
     ensures { IfOk result (λ peekers. peekers.items ≡ replicate m blank_peeker) }
 {
     let mut peekers = Vec::new(alloc);
-    for _worker in 0..m {
+    for _ in 0..m {
         peekers.push(Peeker::new(alloc))?;
     }
     Ok(peekers)
