@@ -10,7 +10,6 @@ use Rattle.tau_machine.specs.Hands.{Txn}
 use Rattle.tau_machine.specs.Shard.{at}
 use Rattle.tau_machine.specs.State.{Core, Ticket}
 use Rattle.tau_machine.specs.Events as machine
-use Rattle.tau_machine.specs.Events.{Leads, Acks}
 use Rattle.tau_machine.proofs.At.{at_same}
 use Rattle.tau_ack.specs.declared.Waiting.{Waiting}
 use Rattle.tau_ack.specs.Pending.{NoneCovered, TakesFirst}

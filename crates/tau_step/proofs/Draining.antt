@@ -21,7 +21,7 @@ use Rattle.tau_step.specs.Device.{noting}
 use Rattle.tau_step.proofs.Silent.{false_not}
 use Rattle.tau_step.proofs.EffectsInTurn.{manages_on, manages_as, manages_none, manages_moves, moves_on, moves_as}
 use Rattle.tau_step.proofs.Scheduled.{kept_all, kept_on, kept_both, kept_short, kept_next, kept_cut}
-use Rattle.tau_step.proofs.Words.{word_ran}
+use Rattle.tau_step.proofs.Words.{word_kept}
 
 abbrev pub idles_so : ℕ → Bool → Load → Progress → Progress → Type 0
 idles_so j whole l P P' = keeps (Drain j ∷ []) (Drain j ∷ []) true l P P'
@@ -116,7 +116,7 @@ module _ {D : Type 0} {G : Ghosts D} (seen_now : (d : D) → G.tells → G.may_l
     pub drain_whole : (whole : Bool) (old mid new : Run) (ws ms : List (Writer D G)) (held held' : List ℕ) (faults faults' : ℕ) → Manages all_idled true old mid ws ms → Moves clerked whole mid new ms ms hears held held' faults faults' → Moves drained whole old new ws ms hears held held' faults faults'
     drain_whole whole old mid new ws ms held held' faults faults' x y =
         moves_on seen_now hears all_idled clerked drained whole old mid new ws ms ms held held held' faults faults faults'
-        (λ l P Q P' p q. kept_both (map Drain (below l.streams)) (Word turn.Clerk ∷ []) whole l P Q P' p (word_ran turn.Clerk whole l Q P' q)) (manages_moves seen_now hears all_idled true old mid ws ms held faults x) y
+        (λ l P Q P' p q. kept_both (map Drain (below l.streams)) (Word turn.Clerk ∷ []) whole l P Q P' p (word_kept turn.Clerk tt whole l Q P' q)) (manages_moves seen_now hears all_idled true old mid ws ms held faults x) y
 
     pub drain_managers : (old new : Run) (ws ws' : List (Writer D G)) (held : List ℕ) (faults : ℕ) → Manages all_idled false old new ws ws' → Moves drained false old new ws ws' hears held held faults faults
     drain_managers old new ws ws' held faults x = moves_as seen_now hears all_idled drained false old new ws ws' held held faults faults (λ l P P' p. kept_short (map Drain (below l.streams)) (Word turn.Clerk ∷ []) l P P' p) (manages_moves seen_now hears all_idled false old new ws ws' held faults x)

@@ -13,8 +13,7 @@ use Rattle.tau_machine.specs.State.{Core}
 use Rattle.tau_machine.specs.Events as machine
 use Rattle.tau_text.specs.declared.load.Turn.TheVariants as turn
 use Rattle.tau_core.specs.declared.state.Load.{Load}
-use Rattle.tau_core.specs.State.{Plain}
-use Rattle.tau_core.specs.View.{Hidden, setting_of, core_of, worker_at}
+use Rattle.tau_core.specs.View.{Hidden, setting_of, core_of}
 use Rattle.tau_core.specs.Stands.{Stands}
 use Rattle.tau_core.proofs.Lists.{got_same}
 use Rattle.tau_run.specs.Turns.{Progress}

@@ -1,6 +1,6 @@
 -- Whole turns of optimistic workers, after which what they have peeked fits their calls again.
-use Rattle.std.proofs.Common.{ℕ, ◌+◌, ◌*◌, ◌<◌, ◌≤◌, ◌≡◌, ◌⊎◌, inl, inr, Bool, true, false, List, [], ◌∷◌, ◌++◌, refl, sym, ap, subst, ◌∙◌, Option, length, length-append, arith, lt-ltb}
-use Rattle.std.specs.Prelude.{Some, None, is_some, not, nat_lt, ◌&&◌, ◌||◌, ◌-◌, slice_get, IsTrue, Result, Ok, Err}
+use Rattle.std.proofs.Common.{ℕ, ◌+◌, ◌<◌, ◌≤◌, ◌≡◌, ◌⊎◌, inl, inr, Bool, true, false, List, [], ◌∷◌, ◌++◌, refl, sym, ap, subst, ◌∙◌, Option, length, arith, lt-ltb}
+use Rattle.std.specs.Prelude.{Some, None, is_some, not, nat_lt, ◌&&◌, ◌||◌, ◌-◌, slice_get, IsTrue, Ok}
 use Rattle.std.proofs.lemmas.Bool.{cases_Bool}
 use Rattle.tau_base.specs.declared.limits.TheConstants.{MAX_CALLS, MAX_STEPS}
 use Rattle.tau_base.specs.declared.value.Call.{Call}
@@ -32,21 +32,15 @@ use Rattle.tau_core.proofs.Numbers.{Numbers, numbers}
 use Rattle.tau_occ.specs.Peeker.{PlainPeeker, IsPeeking}
 use Rattle.tau_occ.specs.declared.style.Style.TheVariants.{Optimistic}
 use Rattle.tau_run.specs.Fits.{Asks, Fits, HandFits, PhaseFits}
-use Rattle.tau_run.specs.Turns.{Progress, Stays, IsOwn, Goes, NamesNewest, BusyHasHolder, QuitsLowest, is_raised, is_empty}
-use Rattle.tau_run.specs.Schedule.{RunState, peeked, HasPeeked, BusyHasCause, ReadsPeeked, TakesTurn, peeks_after}
-use Rattle.tau_run.proofs.Optimistic.{FitsAt, KeepsHand, turn_fits, turn_keeps, quit_empty}
+use Rattle.tau_run.specs.Turns.{Progress, IsOwn, is_raised, is_empty}
+use Rattle.tau_run.specs.Schedule.{RunState, peeked, HasPeeked, BusyHasCause, ReadsPeeked, peeks_after}
+use Rattle.tau_run.proofs.Optimistic.{FitsAt, turn_fits, turn_keeps, quit_empty}
 use Rattle.tau_run.proofs.Peeked.{front_ended}
 use Rattle.tau_run.proofs.Steps.{if_known, if_yes, if_not}
-use Rattle.tau_step.specs.TurnParts.{has_work, Worked}
 use Rattle.tau_step.specs.Acting.{WorkerTurned, has_work_in, raised}
-use Rattle.tau_step.specs.Optimists.{Peeks, PeekerFits, PeeksItsCall, IsAtLock, IsAtNone, IsOfCall, TurnedIn, OptimistTurned, turned_in, turns_left, has_turn_in, ready_at}
+use Rattle.tau_step.specs.Optimists.{Peeks, PeekerFits, PeeksItsCall, IsAtLock, IsAtNone, IsOfCall, TurnedIn, OptimistTurned, turned_in, has_turn_in, ready_at}
 use Rattle.tau_step.specs.Progressed.{progress, works, Comes}
-use Rattle.tau_step.specs.Remains.{worker_left}
 use Rattle.tau_step.proofs.Deciding.{waits}
-use Rattle.tau_step.proofs.Falling.{own_falls}
-use Rattle.tau_step.proofs.Fitting.{stands_tries}
-use Rattle.tau_step.proofs.Idling.{if_then}
-use Rattle.tau_step.proofs.Others.{own_others}
 
 some_hand : (a b : Hand) → Some a ≡ Some b → a ≡ b
 some_hand a b e = cc

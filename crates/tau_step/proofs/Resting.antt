@@ -17,7 +17,8 @@ use Rattle.tau_run.specs.Schedule as todo
 use Rattle.tau_run.specs.Schedule.{Todo, Did, peeked, on}
 use Rattle.tau_run.proofs.Steps.{began_none}
 use Rattle.tau_step.proofs.ToSteps.{alone_over, acts_alone, left_over_over, resumes}
-use Rattle.tau_step.specs.Along.{Quiet, flushed_in}
+use Rattle.tau_step.specs.Along.{Quiet}
+use Rattle.tau_step.specs.Counts.{flushed_in}
 use Rattle.tau_step.specs.Rounding.{ran, rests, none_peeked, ActedAlone, RanLeftOver}
 use Rattle.tau_step.proofs.Scheduled.{left_all, left_on, left_after}
 use Rattle.tau_step.proofs.Silent.{worked_silent, goes_silent}

@@ -13,12 +13,12 @@ use Rattle.tau_run.specs.Run.{below}
 use Rattle.tau_run.specs.Turns.{Progress, round}
 use Rattle.tau_run.specs.Schedule.{Todo, Word, Rounds, RunState, Began, Steps, on, peeked}
 use Rattle.tau_run.proofs.Steps.{began_none, if_yes}
-use Rattle.tau_step.specs.Along.{Quiet, Silent, flushed_in}
+use Rattle.tau_step.specs.Along.{Quiet, Silent}
+use Rattle.tau_step.specs.Counts.{flushed_in}
 use Rattle.tau_step.specs.Optimists.{Peeks, turned_in}
-use Rattle.tau_step.specs.Rounding.{becomes, leaves, ran, kept, of_workers, of_managers, Rounded, RoundCut, rest_of_round, in_rounds, turns_now, any_now, worker_turned}
+use Rattle.tau_step.specs.Rounding.{becomes, leaves, ran, of_workers, of_managers, Rounded, RoundCut, rest_of_round, in_rounds, turns_now, any_now, worker_turned}
 use Rattle.tau_step.proofs.Rounding.{any_below, any_more, quiet_none, quiet_on, quiet_same}
 use Rattle.tau_step.proofs.Scheduled.{left_all, left_after, ran_both, ran_short, ran_next, ran_cut}
-use Rattle.tau_step.proofs.Silent.{false_not}
 use Rattle.tau_step.proofs.StyleTurns.{turn_quiet, turn_silent, turn_later}
 use Rattle.tau_step.proofs.ToSteps as to_steps
 use Rattle.tau_step.proofs.Idling.{if_else}

@@ -1,25 +1,13 @@
 -- Rounds, a worker that acts alone, and calls left over, step by step.
-use Rattle.std.proofs.Common.{ℕ, suc, ◌<◌, ◌≡◌, Bool, true, false, inl, inr, List, [], ◌∷◌, ◌++◌, map, refl, sym, ap, subst, ◌∙◌, append_assoc, arith, ◌+◌}
+use Rattle.std.proofs.Common.{ℕ, suc, ◌<◌, ◌≡◌, Bool, true, false, inl, inr, List, [], ◌∷◌, ◌++◌, refl, sym, ap, subst, ◌∙◌, ◌+◌}
 use Rattle.std.specs.Prelude.{◌||◌}
 use Rattle.std.specs.List.{list_any}
 use Rattle.std.proofs.lemmas.Bool.{cases_Bool}
-use Rattle.std.proofs.lemmas.List.{map-append}
 use Rattle.tau_machine.specs.State.{Setting, Core}
-use Rattle.tau_text.specs.declared.load.Turn.TheVariants as turn
 use Rattle.tau_run.specs.Run.{below}
-use Rattle.tau_occ.specs.declared.style.Style.TheVariants.{Locking}
-use Rattle.tau_core.specs.declared.state.Load.{Load}
-use Rattle.tau_core.specs.View.{setting_of}
-use Rattle.tau_run.specs.Turns.{Progress, Stays, round, is_raised}
-use Rattle.tau_step.specs.TurnParts.{Worked, has_work, is_busy}
-use Rattle.tau_run.specs.Schedule.{Todo, Word, Rounds, still, Steps, on}
-use Rattle.tau_run.proofs.Steps.{if_yes}
-use Rattle.tau_step.proofs.ToSteps as to_steps
-use Rattle.tau_base.proofs.Lists.{map_map}
+use Rattle.tau_run.specs.Turns.{Progress, is_raised}
+use Rattle.tau_step.specs.TurnParts.{Worked, has_work}
 use Rattle.tau_step.specs.Along.{Quiet}
-use Rattle.tau_step.specs.Rounding.{becomes, leaves, ran, of_workers, of_managers, Rounded, RoundCut, rest_of_round, in_rounds}
-use Rattle.tau_step.proofs.Scheduled.{left_all, left_after, ran_both, ran_short, ran_next, ran_cut}
-use Rattle.tau_step.proofs.Silent.{worked_silent}
 use Rattle.tau_step.proofs.Growing.{grows_none, grows_on, same_none, same_on}
 use Rattle.tau_step.proofs.OneByOne.{below_split}
 use Rattle.tau_step.proofs.Others.{worked_streams, worked_others, raised_same, work_same}

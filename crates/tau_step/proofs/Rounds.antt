@@ -5,15 +5,12 @@ use Rattle.std.proofs.lemmas.Bool.{cases_Bool}
 use Rattle.tau_base.specs.declared.value.NoMemory.{NoMemory}
 use Rattle.tau_disk.specs.declared.disk.Disk.{Ghosts}
 use Rattle.tau_stream.specs.declared.writer.Writer.{Writer}
-use Rattle.tau_model.specs.History.{Act}
-use Rattle.tau_machine.specs.Hands.{Txn}
-use Rattle.tau_machine.specs.Events as machine
 use Rattle.tau_text.specs.declared.load.Turn.TheVariants as turn
 use Rattle.tau_core.specs.declared.state.Load.{Load}
-use Rattle.tau_core.specs.View.{Hidden, core_of, setting_of}
+use Rattle.tau_core.specs.View.{core_of, setting_of}
 use Rattle.tau_core.specs.Opens.{nothing}
 use Rattle.tau_core.specs.State.{Plain}
-use Rattle.tau_core.specs.Stands.{Stands, Stood}
+use Rattle.tau_core.specs.Stands.{Stood}
 use Rattle.tau_run.specs.Run.{below}
 use Rattle.tau_occ.specs.Peeker.{PlainPeeker}
 use Rattle.tau_occ.specs.declared.style.Style.{Style}

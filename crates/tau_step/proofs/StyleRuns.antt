@@ -30,7 +30,7 @@ use Rattle.tau_step.specs.declared.run.Run.{Run}
 use Rattle.tau_step.specs.Optimists.{AllFit, AreFit, OptimistTurned, PeekerFits, Peeks, all_turns_left, peeks_of, seen_in, turned_in, turns_left}
 use Rattle.tau_step.specs.Progressed.{progress}
 use Rattle.tau_step.specs.Remains.{sum_below}
-use Rattle.tau_step.specs.Rounding.{alone_by, none_peeked, turns_now, worked_by}
+use Rattle.tau_step.specs.Rounding.{alone_by, none_peeked, worked_by}
 use Rattle.tau_step.specs.RunEffects.{SameWorkers, Works}
 use Rattle.tau_step.specs.TurnParts.{has_work, Worked}
 use Rattle.tau_step.proofs.EffectsInTurn.{works_as}

@@ -1,11 +1,11 @@
 -- What the turn of a worker in either style leaves of all that is not its own.
-use Rattle.std.proofs.Common.{ℕ, ◌<◌, ◌≤◌, ◌≡◌, ◌⊎◌, inl, inr, Bool, true, List, [], ◌∷◌, ◌++◌, length, length-append, refl, sym, ap, ◌∙◌, arith}
+use Rattle.std.proofs.Common.{ℕ, ◌<◌, ◌≤◌, ◌≡◌, ◌⊎◌, inl, inr, Bool, true, List, [], ◌∷◌, ◌++◌, length, length-append, refl, ap, ◌∙◌, arith}
 use Rattle.std.specs.Prelude.{is_some, not, nat_lt, ◌&&◌, ◌||◌}
 use Rattle.tau_base.specs.declared.limits.TheConstants.{MAX_STEPS}
 use Rattle.tau_base.specs.declared.value.Key.{Key}
 use Rattle.tau_base.specs.declared.value.Value.{Value}
 use Rattle.tau_machine.specs.Events.{Event, Lock, Busy, Quit, Commit, Post, Free, FirstFree, Done, DoneReading, Drop, Gather, PlaceAnchor, Persist, Ack, Stop, Resume}
-use Rattle.tau_machine.specs.State.{Setting, Core}
+use Rattle.tau_machine.specs.State.{Setting}
 use Rattle.tau_machine.specs.Worker.{Worker}
 use Rattle.tau_machine.proofs.At.{at_same, at_other}
 use Rattle.tau_occ.specs.declared.style.Style.{Style}

@@ -9,7 +9,7 @@ use Rattle.tau_core.specs.declared.state.Load.{Load}
 use Rattle.tau_core.specs.View.{setting_of}
 use Rattle.tau_run.specs.Run.{below}
 use Rattle.tau_run.specs.Turns.{Progress, Stays}
-use Rattle.tau_step.specs.TurnParts.{Worked, Turned, ManagedPart, Clerked, has_work, is_busy}
+use Rattle.tau_step.specs.TurnParts.{Worked, Turned, ManagedPart, Clerked, has_work}
 use Rattle.tau_run.specs.Schedule.{Todo, Word, Rounds, LeftOver, Alone, Drain, peeked, has_turn, any_turn, Leaves, Began, todos_of}
 use Rattle.tau_step.specs.Along.{Quiet, Silent}
 use Rattle.tau_step.specs.Optimists.{Peeks, turned_in}

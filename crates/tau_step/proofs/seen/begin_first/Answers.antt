@@ -1,4 +1,3 @@
-use Rattle.std.proofs.Common.{sym, ◌∙◌}
 use Rattle.tau_step.proofs.seen.begin_first.Goals as goal
 
 pub begin-requires : goal.begin-requires

@@ -1,5 +1,5 @@
-use Rattle.std.proofs.Common.{◌≡◌, Bool, true, false, refl, sym, ap, ◌∙◌}
-use Rattle.std.specs.Prelude.{None, is_some}
+use Rattle.std.proofs.Common.{◌≡◌, true, false, refl, sym, ap, ◌∙◌}
+use Rattle.std.specs.Prelude.{is_some}
 use Rattle.tau_machine.specs.State.{hand_of}
 use Rattle.tau_core.specs.View.{core_of}
 use Rattle.tau_step.proofs.Deciding.{acts_held, rests_empty}

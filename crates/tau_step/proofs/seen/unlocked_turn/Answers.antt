@@ -1,4 +1,4 @@
-use Rattle.std.proofs.Common.{[], inl, inr, refl, sym, ap, subst, ◌<◌}
+use Rattle.std.proofs.Common.{inl, inr, refl, sym, ap, subst, ◌<◌}
 use Rattle.std.proofs.lemmas.Result.{err_from_is_err_and}
 use Rattle.tau_base.proofs.Logic.{not_both}
 use Rattle.tau_core.specs.declared.state.Load.{Load}
