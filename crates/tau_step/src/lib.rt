@@ -14,5 +14,4 @@ mod worker;
 
 pub use device::device_order;
 pub use optimists::{locks_are_turns, peeks_are_turns, whole_runs_end};
-pub use seen::optimistic_turn;
 pub use top::{run_turns, run_turns_from};

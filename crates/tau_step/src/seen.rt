@@ -24,7 +24,7 @@ use tau_text::Workload;
 
 /// The turn of an optimistic worker, and whether it had anything to do. Its call runs on peeked values first, one a turn,
 /// and takes its locks then. After a stop the worker finishes its call, also one of which it has only peeked.
-pub fn optimistic_turn(
+pub(crate) fn optimistic_turn(
     core: &mut Core,
     peeker: &mut Peeker,
     load: &Workload,

@@ -2,8 +2,6 @@
 #![tactic(auto)]
 
 #[cfg(test)]
-mod optimists;
-#[cfg(test)]
 mod orders;
 #[cfg(test)]
 mod styles;
