@@ -122,12 +122,12 @@ fn peekers_of(alloc: Global, style: Style, m: u8) -> Result<Vec<Peeker>, NoMemor
 {
     match style {
         Style::Locking => Ok(Vec::new(alloc)),
-        Style::Optimistic => blank_peekers(alloc, m),
+        Style::Optimistic => fresh_peekers(alloc, m),
     }
 }
 
 /// So many workers that have peeked nothing.
-fn blank_peekers(alloc: Global, m: u8) -> Result<Vec<Peeker>, NoMemory>
+fn fresh_peekers(alloc: Global, m: u8) -> Result<Vec<Peeker>, NoMemory>
     ensures { IfOk result (λ peekers. peekers.items ≡ replicate m blank_peeker) }
 {
     let mut peekers = Vec::new(alloc);

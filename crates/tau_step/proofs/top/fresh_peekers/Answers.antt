@@ -1,7 +1,7 @@
 use Rattle.std.proofs.Common.{◌∙◌, ◌++◌, ◌∷◌, [], List, ap}
 use Rattle.std.proofs.lemmas.List.{replicate-append-replicate}
 use Rattle.tau_occ.specs.Peeker.{PlainPeeker, blank_peeker}
-use Rattle.tau_step.proofs.top.blank_peekers.Goals as goal
+use Rattle.tau_step.proofs.top.fresh_peekers.Goals as goal
 
 pub loop-preserved : goal.loop-preserved
 loop-preserved c =
