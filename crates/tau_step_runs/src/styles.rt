@@ -60,3 +60,28 @@ fn a_row_that_is_held(rt: HostRuntime) -> Result<(), Fail> {
     assert!(rt; told_in(alloc, PEEKED, 2, Style::Locking)?.as_slice() == report);
     Ok(())
 }
+
+const PUTS: &[u8] = b"table a\nput a 1 5\nput a 1 6\nturns w0 w1\n";
+
+const LEFT_OVER: &[u8] = b"table a\nput a 1 5\nput a 1 6\nturns w0 w1 w1 w1 w1 w1 w1 w1 w1 w1 w1 w1 w1 w1 w1 w1 w1 w1 w1 w1 w1 w1 w1 w1 w1 w1 w1 w1 w1 w1 w1 w1 w1 w1 w1 w1 w1 w1 w1 w1 w1 w1 w1 w1 w1 w1 w1 w1 w1 w1 w1 w1 w1 w1 w1 w1 w1 w1 w1 w1 w1 w1 w1 w1 w1\n";
+
+const IN_ORDER: &[u8] =
+    b"ack 1 53,0\nack 2 53,61\nreply 1 none\nreply 2 none\norder 1\norder 2\nrow a 1 int 6\nend 0\n";
+
+// A put reads no row, so there is nothing to peek: worker 1 meets Busy in either style.
+#[test]
+fn puts_in_either_style(rt: HostRuntime) -> Result<(), Fail> {
+    let alloc = rt.alloc();
+    assert!(rt; told_in(alloc, PUTS, 2, Style::Locking)?.as_slice() == IN_ORDER);
+    assert!(rt; told_in(alloc, PUTS, 2, Style::Optimistic)?.as_slice() == IN_ORDER);
+    Ok(())
+}
+
+// Call 2 meets Busy 64 times, is left over, and runs alone.
+#[test]
+fn left_over_in_either_style(rt: HostRuntime) -> Result<(), Fail> {
+    let alloc = rt.alloc();
+    assert!(rt; told_in(alloc, LEFT_OVER, 2, Style::Locking)?.as_slice() == IN_ORDER);
+    assert!(rt; told_in(alloc, LEFT_OVER, 2, Style::Optimistic)?.as_slice() == IN_ORDER);
+    Ok(())
+}
