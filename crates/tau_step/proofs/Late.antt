@@ -108,12 +108,12 @@ module _ (set : Setting) (m n : ℕ) where
       (λ e x. if_yes (is_flushed set m n j p.state) _ _ e (from p r more y [] x h))
       (λ e x. let c = left p r more y (todo.Drain j ∷ []) x.0 h in if_not (is_flushed set m n j p.state) _ _ e (y.progress, x.1, only (Idled j) y.progress c.0 r c.1 c.2))
 
-  pub wholes : (todos : List Todo) (x y : RunState) → AllLate set m n todos → Steps set m n Locking todos x [] y → x ≡ still x.progress → Wholes todos x.progress y.progress
-  wholes todos x y l here e = refl
-  wholes todos x y l (on {todo = t} {todos = ts} {y = a} more d s) e =
+  pub wholes : (todos : List Todo) (x y : RunState) → Steps set m n Locking todos x [] y → AllLate set m n todos → x ≡ still x.progress → Wholes todos x.progress y.progress
+  wholes todos x y here l e = refl
+  wholes todos x y (on {todo = t} {todos = ts} {y = a} more d s) l e =
       let d' = subst (λ (z : RunState). Does set m n Locking t z more a) e d in
       let less = (late_step set m n Locking t x more a l.0 d).0 in
-      let (q, first, second) = wholes_append more ts a.progress y.progress (wholes (more ++ ts) a y (late_append set m n more ts less l.1) s (kept_still set m n t x.progress more a d')) in
+      let (q, first, second) = wholes_append more ts a.progress y.progress (wholes (more ++ ts) a y s (late_append set m n more ts less l.1) (kept_still set m n t x.progress more a d')) in
       (q, whole_by t x.progress q more a l.0 d' first, second)
 
   -- turns of all managers

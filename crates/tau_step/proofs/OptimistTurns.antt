@@ -86,13 +86,13 @@ module _ (w : ℕ) (p p' : Plain) (K : List (Act Txn)) (h : Hidden) (es : List m
 
 turn_held : (a b c k : Bool) → a ≡ true → b ≡ true → (a && (b || (c || k))) ≡ true
 turn_held false b c k e f = e
-turn_held true false c k e f = f
+turn_held true false c k e f = absurd (let bad : false ≡ true = f in cc)
 turn_held true true c k e f = refl
 
 turn_peeked : (a b c k : Bool) → a ≡ true → c ≡ true → (a && (b || (c || k))) ≡ true
 turn_peeked false b c k e f = e
 turn_peeked true true c k e f = refl
-turn_peeked true false false k e f = f
+turn_peeked true false false k e f = absurd (let bad : false ≡ true = f in cc)
 turn_peeked true false true k e f = refl
 
 turn_waiting : (a b c r k : Bool) → a ≡ true → r ≡ false → k ≡ false → (a && (b || (c || (not r && not k)))) ≡ true
@@ -114,9 +114,6 @@ none_seen (x ∷ xs) = inr (λ e. cc)
 module _ (w : ℕ) (p p' : Plain) (K : List (Act Txn)) (h : Hidden) (es : List machine.Event) (told : List (ℕ × List ℕ)) (f : Peeks) (lt : w < p.load.workers) where
   abbrev raised_now : Bool
   raised_now = is_raised (setting_of p.load) p.load.workers p.load.streams (core_of p h)
-
-  waits_now : Bool
-  waits_now = is_empty (worker_at p w).waiting
 
   -- its call, in hand or to begin, is at a lock, and it does not rest for a stop
   pub turns_at_lock : (hand : Hand) → ready_at p w ≡ Some hand → (raised p h ≡ true → (worker_at p w).hand ≡ None → f w ≡ [] → ⊥) → has_turn_in w p p' K h es told f ≡ true
@@ -191,8 +188,8 @@ module _ (w : ℕ) (p : Plain) (K : List (Act Txn)) (h : Hidden) (none : TellsLo
   ]
     where
       by : (wk : Worker) (o : Option Hand) → wk.hand ≡ o → o ≡ None → (hand : Hand) → (begun p.load.streams wk).hand ≡ Some hand → (begun_by p.load.streams (record wk { hand = None }) wk.hand wk.waiting).hand ≡ Some hand
-      by wk (Some x) e no hand is = absurd (none_hand x (sym no))
-      by wk None e no hand is = split wk.waiting (ap (λ (o : Option Hand). (begun_by p.load.streams wk o wk.waiting).hand) (sym e) ∙ is)
+      by wk (Some x) e gone hand is = absurd (none_hand x (sym gone))
+      by wk None e gone hand is = split wk.waiting (ap (λ (o : Option Hand). (begun_by p.load.streams wk o wk.waiting).hand) (sym e) ∙ is)
         where
           split : (cs : List Numbered) → (begun_by p.load.streams wk None cs).hand ≡ Some hand → (begun_by p.load.streams (record wk { hand = None }) wk.hand cs).hand ≡ Some hand
           split [] k = absurd (none_hand hand (sym e ∙ k))
@@ -390,15 +387,14 @@ module _ (p : Plain) (w number : ℕ) (key : Key) (mode : Mode) (at_lock : IsAtL
   ]
 
 -- after the turn of a call at a lock what is peeked fits again
-pub locked_fits : (p p' : Plain) (w number : ℕ) (key : Key) (mode : Mode) → IsAtLock p w number key mode → w < p.load.workers → (stopped : Bool) → ((h : Hidden) → stopped ≡ raised p h) → Stood p → (q mid q' : PlainPeeker) → PeekerFits p w q → mid.seen ≡ q.seen →
-    PeeksItsCall p w mid → (stopped ≡ true → (worker_at p w).hand ≡ None → q.seen ≡ [] → ⊥) →
+pub locked_fits : (p p' : Plain) (w number : ℕ) (key : Key) (mode : Mode) → IsAtLock p w number key mode → Stood p → (q mid q' : PlainPeeker) → PeekerFits p w q → mid.seen ≡ q.seen → PeeksItsCall p w mid →
+    ((K : List (Act Txn)) (h : Hidden) (es : List machine.Event) (told : List (ℕ × List ℕ)) (f : Peeks) → Stands p K h → f w ≡ q.seen → has_turn_in w p p' K h es told f ≡ true) →
     ((K : List (Act Txn)) (h : Hidden) (es : List machine.Event) (told : List (ℕ × List ℕ)) (f : Peeks) → Stands p K h → f w ≡ mid.seen → has_turn_in w p p' K h es told f ≡ true → TurnedIn w p p' K h es told f Optimistic (at w q'.seen f)) →
     ((procs : List Proc) (c : Call) → IsPeeking procs c mid → (q'.seen ≡ []) ⊎ IsPeeking procs c q') → PeekerFits p' w q'
-locked_fits p p' w number key mode at_lock lt stopped stop (K, h, g) q mid q' fit seen its_peeks goes turned kept =
+locked_fits p p' w number key mode at_lock (K, h, g) q mid q' fit seen its_peeks works turned kept =
     let tells = at_lock K h g in
     let f : Peeks = λ v. q.seen in
-    let works = turns_at_lock w p p' K h [] [] f lt tells.hand tells.is (λ up. goes (stop h ∙ up)) in
-    peeker_fits w p p' K h [] [] f fit.fits q' (turned K h [] [] f g (sym seen) works) (elim (kept p.load.procs tells.hand.call.call (its_peeks K h g tells.hand tells.is)) [
+    peeker_fits w p p' K h [] [] f fit.fits q' (turned K h [] [] f g (sym seen) (works K h [] [] f g refl)) (elim (kept p.load.procs tells.hand.call.call (its_peeks K h g tells.hand tells.is)) [
       | inl none ↦ inl none
       | inr peeking ↦ inr (tells.hand, tells.is, peeking)
     ])

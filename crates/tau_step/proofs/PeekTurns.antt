@@ -254,6 +254,6 @@ kept_lock (Ok a) q mid q' first second = λ procs c peeking. elim second [
 ]
 kept_lock (Err e) q mid q' first second = tt
 
-pub kept_none : {A B C : Type 0} (r : Result A NoMemory) → OnOk r B → OnOk r (B ⊎ C)
-kept_none (Ok a) b = inl b
-kept_none (Err e) b = tt
+pub kept_none : {A : Type 0} (B C : Type 0) (r : Result A NoMemory) → OnOk r B → OnOk r (B ⊎ C)
+kept_none B C (Ok a) b = inl b
+kept_none B C (Err e) b = tt

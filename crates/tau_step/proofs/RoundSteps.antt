@@ -47,20 +47,20 @@ module _ (style : Style) where
   rounded_none f l P = record { turns = left_all style f [] l P; any_is = refl; still = λ e. refl; later = λ w le. refl; quiet = quiet_none P.state; silent = refl }
 
   pub rounded_more : (f g h : Peeks) (i : ℕ) (any did any' : Bool) (l : Load) (P Q P' : Progress) → Rounded style f g i any l P Q → did ≡ turns_now l Q g i → turned_in style i g h l Q P' → any' ≡ (any || did) → Rounded style f h (i + 1) any' l P P'
-  rounded_more f g h i any did any' l P Q P' r is turn e =
+  rounded_more f g h i any did any' l P Q P' r is took e =
       let found : did ≡ turns_now l P f i = is ∙ r.later i (omega arith) in
       let next : suc i ≡ i + 1 = omega arith in
       record {
-        turns = ran_next style (λ w. Word (turn.Worker w)) f g h i l P Q P' r.turns (to_steps.worked (setting_of l) l.workers l.streams style g i h Q P' turn);
+        turns = ran_next style (λ w. Word (turn.Worker w)) f g h i l P Q P' r.turns (to_steps.worked (setting_of l) l.workers l.streams style g i h Q P' took);
         any_is = e ∙ ap (λ (b : Bool). b || did) r.any_is ∙ ap (λ (b : Bool). list_any (turns_now l P f) (below i) || b) found ∙ sym (any_more (turns_now l P f) i) ∙ ap (λ (k : ℕ). list_any (turns_now l P f) (below k)) next;
         still = λ none.
             (let both : (any || did) ≡ false = sym e ∙ none in
             let first = or_first any did both in
             let second : did ≡ false = sym (ap (λ (b : Bool). b || did) first) ∙ both in
-            worked_still g h i l Q P' (sym is ∙ second) turn ∙ r.still first);
-        later = λ w le. turn_later (setting_of l) l.workers l.streams style i g h Q P' turn w (λ same. absurd (omega (arith, same, le))) ∙ r.later w (omega (arith, le));
-        quiet = quiet_on P.state Q.state P'.state r.quiet (turn_quiet (setting_of l) l.workers l.streams style i g h Q P' turn);
-        silent = turn_silent (setting_of l) l.workers l.streams style i g h Q P' turn ∙ r.silent;
+            worked_still g h i l Q P' (sym is ∙ second) took ∙ r.still first);
+        later = λ w le. turn_later (setting_of l) l.workers l.streams style i g h Q P' took w (λ same. absurd (omega (arith, same, le))) ∙ r.later w (omega (arith, le));
+        quiet = quiet_on P.state Q.state P'.state r.quiet (turn_quiet (setting_of l) l.workers l.streams style i g h Q P' took);
+        silent = turn_silent (setting_of l) l.workers l.streams style i g h Q P' took ∙ r.silent;
       }
 
   pub rounded_cut : (f g h : Peeks) (i : ℕ) (any : Bool) (l : Load) (P Q P' : Progress) → i < l.workers → Rounded style f g i any l P Q → peeked P' h ≡ peeked Q g → RoundCut style f h l P P'

@@ -445,7 +445,7 @@ module _ (set : Setting) (m n : ℕ) where
   -- of what is done in the style Locking once rounds have ended
   ends_by : (y x : RunState) → y ≡ still y.progress → any_turn set m n y ≡ false → Steps set m n Locking (late set m n) y [] x → HasEnded set m n x.progress.state
   ends_by y x e none s =
-      let after = wholes set m n (late set m n) y x (all_late set m n) s e in
+      let after = wholes set m n (late set m n) y x s (all_late set m n) e in
       let parts = wholes_append set m n (map todo.Drain (below n)) (todo.Word turn.Clerk ∷ []) after.0 x.progress after.2 in
       late_ends y.progress after.0 parts.0 x.progress (subst (λ (z : RunState). any_turn set m n z ≡ false) e none) after.1 (drains set m n after.0 parts.0 parts.1)
       (only set m n (Clerked set m n true) parts.0 parts.2.0 x.progress parts.2.1 parts.2.2)

@@ -40,6 +40,11 @@ some_below f (suc m) w lt e = elim (cases_eq w m) [
   | inr other ↦ any_front f (below m) (m ∷ []) (some_below f m w (omega (arith, lt, other)) e)
 ]
 
+-- a turn of anyone but a worker
+abbrev pub IsOther : Turn → Type 0
+IsOther (turn.Worker w) = ⊥
+IsOther other = Unit {0}
+
 module _ (set : Setting) (m n : ℕ) (style : Style) (f : Peeks) where
   -- these things were done in this style, and what is peeked stays
   abbrev did : List Todo → Progress → Progress → Type 0
@@ -116,11 +121,6 @@ module _ (set : Setting) (m n : ℕ) (style : Style) (f : Peeks) where
 
   becomes_part : (t : Todo) (others : List Todo) (p q : Progress) → Does set m n style t (peeked p f) others (peeked p f) → began others p q → began (t ∷ []) p q
   becomes_part t others p q d h = began_step set m n style t others (peeked p f) (peeked p f) (peeked q f) d h
-
-  -- a turn of anyone but a worker
-  abbrev pub IsOther : Turn → Type 0
-  IsOther (turn.Worker w) = ⊥
-  IsOther other = Unit {0}
 
   pub turned : (t : Turn) → IsOther t → (p q : Progress) → Turned set m n true t p q → did (todo.Word t ∷ []) p q
   turned (turn.Worker w) other p q h = absurd other

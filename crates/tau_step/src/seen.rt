@@ -45,13 +45,36 @@ pub(crate) fn optimistic_turn(
         return Ok(false);
     }
     match core.next_lock(worker) {
-        Some((number, key, mode)) => {
-            begin_first(peeker, load, number);
-            seen_turn(core, peeker, worker, number, key, mode)?;
-            Ok(true)
-        }
+        Some((number, key, mode)) => locking_turn(core, peeker, load, worker, number, key, mode),
         None => unlocked_turn(core, peeker, worker, stopped),
     }
+}
+
+/// The turn of a worker whose call is at a lock, and which does not rest for a stop.
+fn locking_turn(
+    core: &mut Core,
+    peeker: &mut Peeker,
+    load: &Workload,
+    worker: u8,
+    number: u64,
+    key: Key,
+    mode: Mode,
+) -> Result<bool, NoMemory>
+    requires stood { Stood core.old }
+    requires there { worker < core.old.load.workers }
+    requires procs { load.now.declarations.procs ≡ core.old.load.procs }
+    requires calls { load.now.calls ≡ core.old.load.calls }
+    requires fits { PeekerFits core.old worker peeker.old }
+    requires at { IsAtLock core.old worker number key mode }
+    requires works { (K : List (Act Txn)) (h : Hidden) (es : List machine.Event) (told : List (ℕ × List ℕ)) (f : Peeks) → Stands core.old K h → f worker ≡ peeker.old.seen →
+        has_turn_in worker core.old core.old K h es told f ≡ true }
+    ensures turned { (K : List (Act Txn)) (h : Hidden) (es : List machine.Event) (told : List (ℕ × List ℕ)) (f : Peeks) → Stands core.old K h → f worker ≡ peeker.old.seen →
+        OptimistTurned worker core.old core.new K h es told f peeker.new.seen result }
+    ensures fits { OnOk result (PeekerFits core.new worker peeker.new) }
+{
+    begin_first(peeker, load, number);
+    seen_turn(core, peeker, worker, number, key, mode)?;
+    Ok(true)
 }
 
 /// Whether the worker rests and has nothing to do for a stop: no call is in its hand, and it has peeked of none.

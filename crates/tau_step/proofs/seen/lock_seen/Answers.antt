@@ -43,4 +43,4 @@ returns-in-Other c = record {
 }
 
 pub returns-then-differs-clause-kept : goal.returns-then-differs-clause-kept
-returns-then-differs-clause-kept c = kept_none c.give_way.result c.give_way.ensures.kept
+returns-then-differs-clause-kept c = kept_none _ _ c.give_way.result c.give_way.ensures.kept

@@ -64,7 +64,7 @@ returns-in_err-all-clause-ran g c = λ bases begun.
     let first : Run = record { core = c.args.core; clerk = c.new.result; workers = c.args.m; streams = c.len.result; failed = None; flushes = c.new-2.result; body = c.new-3.result } in
     let x = subst (λ b. Moves (ran_all c.args.style none_peeked (peeks_of c.all.new.peekers.items) (turns_of c.args.load.now)) b first c.all.new.self c.args.writers.now.items c.all.new.writers.items g.K.Sink.tells (g.K.Sink.held c.args.sink.now) (g.K.Sink.held c.all.new.sink) (g.K.Sink.faults c.args.sink.now) (g.K.Sink.faults c.all.new.sink))
     (ap is_ok c.in_err-all.was) (subst (λ (f : Peeks). Moves (ran_all c.args.style f (peeks_of c.all.new.peekers.items) (turns_of c.args.load.now)) (is_ok c.all.result) first c.all.new.self c.args.writers.now.items c.all.new.writers.items g.K.Sink.tells (g.K.Sink.held c.args.sink.now) (g.K.Sink.held c.all.new.sink) (g.K.Sink.faults c.args.sink.now) (g.K.Sink.faults c.all.new.sink)) (ap peeks_of c.in_ok-peekers.ensures ∙ blank_none c.args.style c.args.m) c.all.ensures.moves) in
-    rw (err_from_is_err_and c.from_residual.result c.from_residual.ensures.1).1 (inl (cut_off g.met.D.Disk.seen_now c.args.style (peeks_of c.all.new.peekers.items) c.args.load.now bases first c.all.new.self c.args.writers.now.items c.all.new.writers.items g.K.Sink.tells (g.K.Sink.held c.args.sink.now) (g.K.Sink.held c.all.new.sink) (g.K.Sink.faults c.args.sink.now) (g.K.Sink.faults c.all.new.sink)
+    rw (err_from_is_err_and c.from_residual-in_err-all.result c.from_residual-in_err-all.ensures.1).1 (inl (cut_off g.met.D.Disk.seen_now c.args.style (peeks_of c.all.new.peekers.items) c.args.load.now bases first c.all.new.self c.args.writers.now.items c.all.new.writers.items g.K.Sink.tells (g.K.Sink.held c.args.sink.now) (g.K.Sink.held c.all.new.sink) (g.K.Sink.faults c.args.sink.now) (g.K.Sink.faults c.all.new.sink)
     c.requires.opened begun c.new.ensures.acks c.new.ensures.works x))
 
 pub returns-in_err-all-clause-count : goal.returns-in_err-all-clause-count
