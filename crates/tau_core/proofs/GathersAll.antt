@@ -12,7 +12,7 @@ use Rattle.tau_core.specs.Plain.{PlainSeat, PlainStream}
 use Rattle.tau_core.specs.State.{Plain}
 use Rattle.tau_core.specs.View.{stop_in}
 use Rattle.tau_core.specs.Stands.{Stood}
-use Rattle.tau_core.specs.Gather.{Moves, MovesOwn, MovesPosted, Roomy, Waits, WaitsBelow, IsGathered}
+use Rattle.tau_core.specs.Gather.{Moves, MovesOwn, MovesPosted, Roomy, BoxWaits, WaitsBelow, AllGathered}
 use Rattle.tau_core.proofs.Lists.{got_same, got_other}
 use Rattle.tau_core.proofs.Spellings.{moves_of}
 use Rattle.tau_core.proofs.GathersOwn.{own_bound}
@@ -117,7 +117,7 @@ module _ (p : Plain) (g : Stood p) (j : ℕ) (there : j < p.load.streams) (going
       let there_again : slice_index (slice_set p.gathered j past) j ≡ past = get_or-set_same p.gathered j past 0 inside in
       let moved_on : slice_index (slice_set p.gathered j past) j ≡ slice_index p.gathered j = ap (λ (x : Plain). slice_index x.gathered j) (sym q.after) ∙ still in
       let long : length q.longer ≡ length q.stream.body = (let e = moved_long (slice_index p.gathered j) q.seat.outbox q.outbox q.stream.body q.longer q.moves in omega arith) in
-      let others : (o : PlainOutbox) → Waits j p o → (t : PlainStream) → slice_get (slice_set p.streams j part) j ≡ Some t → Stops (slice_index (slice_set p.gathered j past) j) (length t.body) o.pieces =
+      let others : (o : PlainOutbox) → BoxWaits j p o → (t : PlainStream) → slice_get (slice_set p.streams j part) j ≡ Some t → Stops (slice_index (slice_set p.gathered j past) j) (length t.body) o.pieces =
       λ o waits t f.
       let too : part ≡ t = (let k : Some part ≡ Some t = sym got ∙ f in cc) in
       subst (λ (x : PlainStream). Stops (slice_index (slice_set p.gathered j past) j) (length x.body) o.pieces) too
@@ -151,7 +151,7 @@ passed_waits j w p other below = record {
   ];
 }
 
-pub all_wait : (j n : ℕ) (p : Plain) → length p.seats ≤ n → WaitsBelow j n p → IsGathered j p
+pub all_wait : (j n : ℕ) (p : Plain) → length p.seats ≤ n → WaitsBelow j n p → AllGathered j p
 all_wait j n p all below = record {
   own = below.own;
   posted = λ u t whose e. below.posted u t (let lt = slice_get_within p.seats u t e in omega arith) whose e;

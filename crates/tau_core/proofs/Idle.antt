@@ -12,7 +12,7 @@ use Rattle.tau_core.specs.State.{Plain}
 use Rattle.tau_core.specs.View.{setting_of, core_of}
 use Rattle.tau_core.specs.Stands.{Stood, anchors_at}
 use Rattle.tau_core.specs.Pieces.{IsPieceOf, Paired}
-use Rattle.tau_core.specs.Gather.{IsGathered}
+use Rattle.tau_core.specs.Gather.{AllGathered}
 
 -- pieces that all start below a position do not continue it
 front_below : (l : Load) (anchors : ℕ → List (List ℕ)) (next used : ℕ) (pieces : List Piece) (items : List Item) → Paired (IsPieceOf l anchors) pieces items →
@@ -21,7 +21,7 @@ front_below l anchors next used [] items q low = tt
 front_below l anchors next used (x ∷ xs) [] q low = absurd q
 front_below l anchors next used (x ∷ xs) (i ∷ is) q low = λ e fits. (let a = q.0.start in let b = low i (inl refl) in omega arith)
 
-pub idle_gathered : (p : Plain) → Stood p → (j : ℕ) → j < p.load.streams → slice_index p.gathered j ≡ slice_index p.ends j → IsGathered j p
+pub idle_gathered : (p : Plain) → Stood p → (j : ℕ) → j < p.load.streams → slice_index p.gathered j ≡ slice_index p.ends j → AllGathered j p
 idle_gathered p g j there same = record {
   own = λ s e t f. front_below p.load (anchors_at p) (slice_index p.gathered j) (length t.body) s.own.pieces (g.1.own j) (g.2.own j s e) (λ i m. below i (inr m));
   posted = λ w s whose e t f. front_below p.load (anchors_at p) (slice_index p.gathered j) (length t.body) s.outbox.pieces (g.1.posted w) (g.2.posted w s e) (λ i m. below i (inl (w, whose, m)));

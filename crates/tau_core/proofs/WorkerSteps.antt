@@ -33,7 +33,7 @@ use Rattle.tau_core.specs.State.{Plain}
 use Rattle.tau_core.specs.View.{setting_of, Hidden, shard_in, core_of}
 use Rattle.tau_core.specs.Stands.{Stands, anchors_at}
 use Rattle.tau_core.specs.Carried.{Carried}
-use Rattle.tau_core.specs.Steps.{Happened, Unmoved, WantsLock, Grants, IsBarred, StandsElsewhere, IsAt, LockSteps, QuitSteps, CommitSteps, PostSteps, FreeSteps}
+use Rattle.tau_core.specs.Steps.{Happened, Unmoved, WantsLock, Grants, IsBarredBy, StandsElsewhere, IsAt, LockSteps, QuitSteps, CommitSteps, PostSteps, FreeSteps}
 use Rattle.tau_core.specs.Workers.{Begins, Takes, IsRefused, GivesBack, StaysShort}
 use Rattle.tau_core.specs.Locks.{IsElsewhere, IsAtPhase, LockedBy, QuitBy}
 use Rattle.tau_core.specs.Firsts.{InHand, Rests, BegunAs}
@@ -343,7 +343,7 @@ module _ (p p' b : Plain) (K : List (Act Txn)) (h : Hidden) (g : Stands p K h) (
         ),
       )
 
-  pub first_busy : (holder : ℕ) → IsRefused w holder b p' → Happened (machine.Busy w) p p' K h × IsBarred p h w holder
+  pub first_busy : (holder : ℕ) → IsRefused w holder b p' → Happened (machine.Busy w) p p' K h × IsBarredBy p h w holder
   first_busy holder q =
       let t : machine.Refuses (setting_of p.load) w (begun_state (setting_of p.load) (core_of p h) w) (core_of p' h) =
       subst (λ (x : Load × Core). machine.Refuses (setting_of x.0) w x.1 (core_of p' h)) (λ i. (a.load i, a.core i)) (refused_refuses b p' h w holder q) in

@@ -65,22 +65,22 @@ abbrev pub Roomy : ℕ → Plain → Type 0
 Roomy j p = (s : PlainStream) → slice_get p.streams j ≡ Some s → min (MAX_BODY - length s.body) (slice_index p.ends j - slice_index p.gathered j) ≤ s.room
 
 -- the front piece of this outbox does not start where the stream is gathered, or it is too long for the body
-abbrev pub Waits : ℕ → Plain → PlainOutbox → Type 0
-Waits j p o = (s : PlainStream) → slice_get p.streams j ≡ Some s → Stops (slice_index p.gathered j) (length s.body) o.pieces
+abbrev pub BoxWaits : ℕ → Plain → PlainOutbox → Type 0
+BoxWaits j p o = (s : PlainStream) → slice_get p.streams j ≡ Some s → Stops (slice_index p.gathered j) (length s.body) o.pieces
 
 -- so it is of the manager's outbox, and of those of the stream's workers below this one
 pub record WaitsBelow (j n : ℕ) (p : Plain) : Type 0 where
-  pub own : (s : PlainStream) → slice_get p.streams j ≡ Some s → Waits j p s.own
-  pub posted : (w : ℕ) (t : PlainSeat) → w < n → w % p.load.streams ≡ j → slice_get p.seats w ≡ Some t → Waits j p t.outbox
+  pub own : (s : PlainStream) → slice_get p.streams j ≡ Some s → BoxWaits j p s.own
+  pub posted : (w : ℕ) (t : PlainSeat) → w < n → w % p.load.streams ≡ j → slice_get p.seats w ≡ Some t → BoxWaits j p t.outbox
 
 -- nothing that is posted may be gathered: so it is of the manager's outbox, and of those of all the stream's workers
-pub record IsGathered (j : ℕ) (p : Plain) : Type 0 where
-  pub own : (s : PlainStream) → slice_get p.streams j ≡ Some s → Waits j p s.own
-  pub posted : (w : ℕ) (t : PlainSeat) → w % p.load.streams ≡ j → slice_get p.seats w ≡ Some t → Waits j p t.outbox
+pub record AllGathered (j : ℕ) (p : Plain) : Type 0 where
+  pub own : (s : PlainStream) → slice_get p.streams j ≡ Some s → BoxWaits j p s.own
+  pub posted : (w : ℕ) (t : PlainSeat) → w % p.load.streams ≡ j → slice_get p.seats w ≡ Some t → BoxWaits j p t.outbox
 
 -- a Gather: lack of memory, before anything is gathered, and a stop are its refusals
 abbrev pub Gathered : Plain → ℕ → Outcome → Plain → Type 0
-Gathered p j (outcome.Gathered upto) p' = (stop_in (slice_get p.streams j) ≡ None) × GathersOn j p p' × (upto ≡ slice_index p'.gathered j) × IsGathered j p'
+Gathered p j (outcome.Gathered upto) p' = (stop_in (slice_get p.streams j) ≡ None) × GathersOn j p p' × (upto ≡ slice_index p'.gathered j) × AllGathered j p'
 Gathered p j outcome.NoMemory p' = (stop_in (slice_get p.streams j) ≡ None) × Reserves j p p'
 Gathered p j (outcome.NotNow (Stopped at)) p' = (stop_in (slice_get p.streams j) ≡ Some at) × (p' ≡ p)
 Gathered p j _ p' = ⊥

@@ -26,7 +26,7 @@ use Rattle.tau_core.specs.State.{Plain}
 use Rattle.tau_core.specs.View.{setting_of, Hidden, stop_in, core_of}
 use Rattle.tau_core.specs.Stands.{Stands, anchors_at}
 use Rattle.tau_core.specs.Pieces.{newest_of, Spelled}
-use Rattle.tau_core.specs.Gather.{IsGathered}
+use Rattle.tau_core.specs.Gather.{AllGathered}
 use Rattle.tau_core.specs.Body.{Gives}
 use Rattle.tau_core.specs.Managers.{Bars}
 use Rattle.tau_core.specs.Phases.{hand_phase}
@@ -59,8 +59,8 @@ abbrev pub Grants : Plain → Hidden → ℕ → Value → Type 0
 Grants p h w value = (key : Key) × (mode : Mode) × WantsLock p h w key mode × (value ≡ ((core_of p h).shards (shard_number key)).rows key)
 
 -- the lowest other worker that holds the key in a conflicting mode
-abbrev pub IsBarred : Plain → Hidden → ℕ → ℕ → Type 0
-IsBarred p h w holder = (key : Key) × (mode : Mode) × WantsLock p h w key mode × IsLowest (entry_in ((core_of p h).shards (shard_number key)) key) w mode holder
+abbrev pub IsBarredBy : Plain → Hidden → ℕ → ℕ → Type 0
+IsBarredBy p h w holder = (key : Key) × (mode : Mode) × WantsLock p h w key mode × IsLowest (entry_in ((core_of p h).shards (shard_number key)) key) w mode holder
 
 -- the worker stands in this phase, and what it does next, also where it rests and would begin its next call, comes in another one than is wanted
 abbrev pub StandsElsewhere : Plain → Hidden → ℕ → Phase → Phase → Type 0
@@ -90,7 +90,7 @@ module _ (p p' : Plain) (K : List (Act Txn)) (h : Hidden) where
 
   abbrev pub LockSteps : ℕ → Outcome → Type 0
   LockSteps w (outcome.Granted value) = Happened (machine.Lock w) p p' K h × Grants p h w value
-  LockSteps w (outcome.Busy holder) = Happened (machine.Busy w) p p' K h × IsBarred p h w holder
+  LockSteps w (outcome.Busy holder) = Happened (machine.Busy w) p p' K h × IsBarredBy p h w holder
   LockSteps w (outcome.NotNow phase) = of_worker w Locking phase
   LockSteps w outcome.NoMemory = Unmoved p p' K h × (IsAt p h w Locking ⊎ WouldBegin p h w)
   LockSteps w _ = ⊥
@@ -133,7 +133,7 @@ module _ (p p' : Plain) (K : List (Act Txn)) (h : Hidden) where
 
   abbrev pub GatherSteps : ℕ → Outcome → Type 0
   -- no piece that is posted is left where the stream is gathered, but one that is too long for the body
-  GatherSteps j (outcome.Gathered upto) = Happened (machine.Gather j) p p' K h × (upto ≡ slice_index p'.gathered j) × IsGathered j p'
+  GatherSteps j (outcome.Gathered upto) = Happened (machine.Gather j) p p' K h × (upto ≡ slice_index p'.gathered j) × AllGathered j p'
   GatherSteps j (outcome.NotNow phase) = Unmoved p p' K h × IsStopped p j phase
   GatherSteps j outcome.NoMemory = Unmoved p p' K h
   GatherSteps j _ = ⊥

@@ -4,7 +4,7 @@ ghost use Rattle.tau_core.specs.State.{plain};
 ghost use Rattle.tau_core.specs.Stands.{Stood};
 ghost use Rattle.tau_core.specs.View.{stop_in};
 ghost use Rattle.tau_core.specs.Anchors.{Reserves};
-ghost use Rattle.tau_core.specs.Gather.{MovesOwn, MovesPosted, GathersOn, Gathered, Roomy, IsGathered};
+ghost use Rattle.tau_core.specs.Gather.{MovesOwn, MovesPosted, GathersOn, Gathered, Roomy, AllGathered};
 ghost use Rattle.tau_core.specs.Ends.{IsNext};
 ghost use Rattle.tau_core.specs.Answered.{gathered_by};
 
@@ -98,7 +98,7 @@ fn gather_round(state: &mut State, stream: usize)
     requires roomy { Roomy stream (plain state.old) }
     ensures gathers { GathersOn stream (plain state.old) (plain state.new) }
     ensures next { IsNext stream (plain state.old) (plain state.new) }
-    ensures settles { slice_index state.new.gathered stream ≡ slice_index state.old.gathered stream → IsGathered stream (plain state.new) }
+    ensures settles { slice_index state.new.gathered stream ≡ slice_index state.old.gathered stream → AllGathered stream (plain state.new) }
 {
     gather_own(state, stream);
     let streams = state.load.streams;

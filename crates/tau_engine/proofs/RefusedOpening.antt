@@ -163,12 +163,12 @@ module _ {D : Type 0} (G : Ghosts D) (only_now : OnlyNow G) (n m : ℕ) (mode : 
         )
 
   -- the disks were at most read and synced, and what is left of each that has a barrier
-  record IsBarred : Type 0 where
+  record AreBarred : Type 0 where
     pub only : EachUsed (OnlySynced G) old new n
     pub barrier : ℕ → ℕ
     pub barred : EachIn (λ j. j < n) (λ j d e. G.tells → HasBarrier G d e → IsUnwritten G (barrier j) d e) old new
 
-  most_barred : EachUsed (AtMostRead G) old new n → IsBarred
+  most_barred : EachUsed (AtMostRead G) old new n → AreBarred
   most_barred most = record {
     only = λ j d low was. (let (e, is, r) = most j d low was in (e, is, r.only));
     barrier = barrier_at (λ j. AtMostRead G) most;
@@ -197,7 +197,7 @@ module _ {D : Type 0} (G : Ghosts D) (only_now : OnlyNow G) (n m : ℕ) (mode : 
     rest = rest;
   }
 
-  only_memory : IsBarred → wrote [] → Told status.NoMemory
+  only_memory : AreBarred → wrote [] → Told status.NoMemory
   only_memory b silent = says_memory (inl (record { ends = silent; only = b.only; barrier = b.barrier; barred = b.barred; read = λ fault e. absurd (cc) }))
 
   -- ---- a disk failed
@@ -351,7 +351,7 @@ module _ {D : Type 0} (G : Ghosts D) (only_now : OnlyNow G) (n m : ℕ) (mode : 
     kept : (j : ℕ) (d e : D) → Read j d e → G.tells → IsKept d e
     kept j d e read t = record { only = read.only; same = read.same t; settled = λ some. read.settled t some }
 
-    read_barred : IsBarred
+    read_barred : AreBarred
     read_barred = record {
       only = λ j d low was. (let (e, is, read) = refuses.read j d low was in (e, is, read.only));
       barrier = barrier_at Read refuses.read;

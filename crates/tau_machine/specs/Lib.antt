@@ -13,4 +13,5 @@ pub mod Sight
 pub mod Stage
 pub mod State
 pub mod Theorems
+pub mod Waits
 pub mod Worker

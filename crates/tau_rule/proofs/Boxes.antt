@@ -20,7 +20,7 @@ use Rattle.tau_core.specs.View.{setting_of}
 use Rattle.tau_rule.specs.Role.{Share, Working, Managing, Clerking, Role}
 use Rattle.tau_core.specs.Pieces.{IsPieceOf, Paired}
 use Rattle.tau_rule.specs.Knows.{Knows}
-use Rattle.tau_rule.specs.Holders.{BusyHasHolder}
+use Rattle.tau_machine.specs.Waits.{BusyHasHolder}
 use Rattle.tau_rule.specs.Rule.{Now, IsPart, IsShare, IsRole, IsOutbox, Sees, Meets, anchors_at, word_of, hand_of, has, part_count, outbox_part}
 use Rattle.tau_rule.specs.Steps.{ComesHome, handed, first_role, worker_in_share, next_worker}
 use Rattle.tau_rule.specs.Boxes.{BoxOf, box_in, with_box, StepsBox, GivesBox, told_box}

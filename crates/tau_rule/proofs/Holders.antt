@@ -5,7 +5,8 @@ use Rattle.tau_model.specs.History.{Act}
 use Rattle.tau_machine.specs.Hands.{Txn}
 use Rattle.tau_machine.specs.State.{Core, Setting}
 use Rattle.tau_machine.specs.Events.{Event, Leads}
-use Rattle.tau_rule.specs.Holders.{BusyHasHolder, LeadHeld}
+use Rattle.tau_machine.specs.Waits.{BusyHasHolder}
+use Rattle.tau_rule.specs.Holders.{LeadHeld}
 
 module _ (set : Setting) where
   pub held_more : (es : List Event) (K : List (Act Txn)) (opening s s' : Core) (e : Event) (new : List (Act Txn)) → LeadHeld set es opening s K → Leads set e s s' new → BusyHasHolder set e s → LeadHeld set (es ++ e ∷ []) opening s' (K ++ new)

@@ -20,7 +20,7 @@ use Rattle.tau_core.specs.State.{Plain}
 use Rattle.tau_core.specs.View.{setting_of}
 use Rattle.tau_rule.specs.Role.{Share, Working, Managing, Clerking, Role, role_in}
 use Rattle.tau_rule.specs.Knows.{Knows}
-use Rattle.tau_rule.specs.Holders.{BusyHasHolder}
+use Rattle.tau_machine.specs.Waits.{BusyHasHolder}
 use Rattle.tau_rule.specs.Rule.{IsReached, Now, IsPart, IsShare, IsRole, IsOutbox, Sees, Meets, word_of, hand_of, has, part_count, manager_role, LONGEST}
 use Rattle.tau_rule.specs.Steps.{handed, shard_in, working}
 use Rattle.tau_rule.specs.declared.part.Part.{Part}

@@ -21,7 +21,7 @@ use Rattle.tau_core.specs.declared.state.Load.{Load}
 use Rattle.tau_core.specs.View.{setting_of}
 use Rattle.tau_rule.specs.Role.{Managed, Working, Managing, Role}
 use Rattle.tau_rule.specs.Knows.{Knows}
-use Rattle.tau_rule.specs.Holders.{BusyHasHolder}
+use Rattle.tau_machine.specs.Waits.{BusyHasHolder}
 use Rattle.tau_rule.specs.Rule.{Now, Sees, Meets, IsOutbox, anchors_at, outbox_part, manager_role}
 use Rattle.tau_rule.specs.Steps.{Sat, handed, first_role, worker_in, next_worker}
 use Rattle.tau_rule.specs.declared.part.Part.{Part}

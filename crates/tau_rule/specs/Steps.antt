@@ -15,7 +15,7 @@ use Rattle.tau_core.specs.View.{setting_of}
 use Rattle.tau_core.specs.declared.state.Load.{Load}
 use Rattle.tau_rule.specs.Role.{Share, Working, Managing, Clerking, Role}
 use Rattle.tau_rule.specs.Knows.{Knows}
-use Rattle.tau_rule.specs.Holders.{BusyHasHolder}
+use Rattle.tau_machine.specs.Waits.{BusyHasHolder}
 use Rattle.tau_rule.specs.Rule.{Now, IsPart, IsRole, IsReached, Sees, Meets, Rule, has, part_count}
 use Rattle.tau_rule.specs.declared.part.Part.{Part}
 use Rattle.tau_rule.specs.declared.part.Part.TheVariants as part

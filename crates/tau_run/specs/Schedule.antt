@@ -14,12 +14,13 @@ use Rattle.tau_machine.specs.Hands.{Hand, Running}
 use Rattle.tau_machine.specs.Shard.{at}
 use Rattle.tau_machine.specs.State.{Setting, Ticket, Core}
 use Rattle.tau_machine.specs.Events.{Event, Lock, Busy, Done, DoneReading, Drop, Resume, ready, lock_next}
+use Rattle.tau_machine.specs.Waits.{BusyHasHolder, IsBarred}
 use Rattle.tau_occ.specs.declared.style.Style.{Style}
 use Rattle.tau_occ.specs.declared.style.Style.TheVariants.{Locking, Optimistic}
 use Rattle.tau_text.specs.declared.load.Turn.{Turn}
 use Rattle.tau_text.specs.declared.load.Turn.TheVariants as turn
 use Rattle.tau_run.specs.Run.{below}
-use Rattle.tau_run.specs.Turns.{Progress, begun, IfSo, IsOwn, is_empty, is_raised, is_going, Goes, Tells, NamesNewest, IsBarred, BusyHasHolder, QuitsLowest, Gathers, Flushed, Anchored, round, any_left}
+use Rattle.tau_run.specs.Turns.{Progress, begun, IfSo, IsOwn, is_empty, is_raised, is_going, Goes, Tells, NamesNewest, QuitsLowest, Gathers, Flushed, Anchored, round, any_left}
 
 -- what a run has still to do
 pub data Todo : Type 0 where
@@ -112,8 +113,8 @@ module _ (set : Setting) (m n : ℕ) where
 
   -- who is Busy: a worker whose key another holds in a conflicting mode, and an optimistic one also where a row differs
   abbrev pub BusyHasCause : Style → Event → RunState → Type 0
-  BusyHasCause Locking event x = BusyHasHolder set m n event (state_of x)
-  BusyHasCause Optimistic (Busy w) x = IsBarred set m n w (state_of x) ⊎ Differs w x
+  BusyHasCause Locking event x = BusyHasHolder set event (state_of x)
+  BusyHasCause Optimistic (Busy w) x = IsBarred set w (state_of x) ⊎ Differs w x
   BusyHasCause Optimistic event x = Unit {0}
 
   -- an optimistic worker reads, under its lock, what it has peeked

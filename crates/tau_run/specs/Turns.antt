@@ -1,17 +1,18 @@
 -- Runs by turns: what the turns of a run do.
-use Rattle.std.specs.Prelude.{ℕ, ◌+◌, ◌<◌, ◌≤◌, Some, ◌==◌, ◌≡◌, ◌⊎◌, ◌&&◌, not, nat_lt, Bool, true, false, is_some, is_none, List, [], ◌∷◌, ◌++◌, map, length, slice_index}
+use Rattle.std.specs.Prelude.{ℕ, ◌+◌, Some, ◌==◌, ◌≡◌, ◌⊎◌, ◌&&◌, not, nat_lt, Bool, true, false, is_some, is_none, List, [], ◌∷◌, ◌++◌, map, length, slice_index}
 use Rattle.std.specs.List.{list_any}
 use Rattle.tau_base.specs.declared.value.Key.{Key}
 use Rattle.tau_base.specs.declared.value.Mode.{Mode}
 use Rattle.tau_base.specs.Vectors.{covers}
-use Rattle.tau_base.specs.declared.limits.TheConstants.{MAX_ANCHORS, MAX_BODY}
+use Rattle.tau_base.specs.declared.limits.TheConstants.{MAX_ANCHORS}
 use Rattle.tau_model.specs.History.{Act, Member}
 use Rattle.tau_base.specs.Database.{key_cmp}
 use Rattle.std.specs.Ordering.{is_le}
-use Rattle.tau_machine.specs.Hands.{Txn, Hand, mode_of}
+use Rattle.tau_machine.specs.Hands.{Txn, mode_of}
 use Rattle.tau_core.specs.Pieces.{newest_of}
-use Rattle.tau_machine.specs.State.{Setting, Ticket, Item, start_of, past_of, Core}
-use Rattle.tau_machine.specs.Events.{Event, Lock, Busy, Quit, Commit, Post, Free, FirstFree, Done, DoneReading, Gather, PlaceAnchor, Persist, Ack, Stop, Leads, ready, lock_next, Conflicts}
+use Rattle.tau_machine.specs.State.{Setting, Ticket, Core}
+use Rattle.tau_machine.specs.Events.{Event, Lock, Busy, Quit, Commit, Post, Free, FirstFree, Done, DoneReading, Gather, PlaceAnchor, Persist, Ack, Stop, Leads}
+use Rattle.tau_machine.specs.Waits.{IsGathered}
 use Rattle.tau_text.specs.declared.load.Turn.{Turn}
 use Rattle.tau_text.specs.declared.load.Turn.TheVariants as turn
 use Rattle.tau_run.specs.Run.{below}
@@ -89,40 +90,14 @@ module _ (set : Setting) (m n : ℕ) where
   NamesNewest (Commit w) s new = (t : Act Txn) → Member t new → t.call.anchor ≡ newest_of (set.anchored (set.stream_of w)) (s.streams (set.stream_of w)).anchors
   NamesNewest _ s new = Unit {0}
 
-  -- another worker holds the key that the worker wants next, in a mode that conflicts
-  pub record IsBarred (w : ℕ) (s : Core) : Type 0 where
-    pub hand : Hand
-    pub key : Key
-    pub mode : Mode
-    pub is : (ready set s w).hand ≡ Some hand
-    pub next : lock_next set hand ≡ Some (key, mode)
-    pub held : Conflicts set (s.shards (set.shard_of key)) w key mode
-
-  -- a worker is Busy only if it is barred so
-  abbrev pub BusyHasHolder : Event → Core → Type 0
-  BusyHasHolder (Busy w) s = IsBarred w s
-  BusyHasHolder _ s = Unit {0}
-
   -- a key that is given back is the lowest that the call holds
   abbrev pub QuitsLowest : (e : Event) (s s' : Core) (new : List (Act Txn)) → Leads set e s s' new → Type 0
   QuitsLowest (Quit w up) s s' new leads = (k : Key) (mode : Mode) → mode_of k leads.0.hand.held ≡ Some mode → is_le (key_cmp leads.0.key k) ≡ true
   QuitsLowest _ s s' new leads = Unit {0}
 
-  -- the first of these items does not continue what was gathered, or it is too long for the block that is to be written
-  abbrev pub Waits : Core → ℕ → List Item → Type 0
-  Waits s j [] = Unit {0}
-  Waits s j (i ∷ items) = start_of i ≡ slice_index s.gathered j → slice_index s.plv j + MAX_BODY < past_of i
-
-  -- the stream is gathered by at most one block beyond what is persisted, and nothing is left that can be gathered of what
-  -- the manager and the workers of the stream have posted
-  pub record IsGathered (j : ℕ) (s : Core) : Type 0 where
-    pub near : slice_index s.gathered j ≤ slice_index s.plv j + MAX_BODY
-    pub own : Waits s j (s.streams j).posted
-    pub posted : (w : ℕ) → w < m → set.stream_of w ≡ j → Waits s j (s.outboxes w).posted
-
   -- all that continues the stream is gathered, as much as one block holds
   abbrev pub Gathers : ℕ → Progress → Progress → Type 0
-  Gathers j p p' = Goes (Gather j) p p' × IsGathered j p'.state
+  Gathers j p p' = Goes (Gather j) p p' × IsGathered set m j p'.state
 
   -- what was gathered is persisted where anything is new, unless the disk fails
   abbrev pub Flushed : ℕ → Progress → Progress → Type 0

@@ -17,6 +17,7 @@ use Rattle.tau_machine.specs.Hands.{Txn}
 use Rattle.tau_machine.specs.Shard.{at}
 use Rattle.tau_machine.specs.State.{Setting, Core, Stream, Item, past_of}
 use Rattle.tau_machine.specs.Events as machine
+use Rattle.tau_machine.specs.Waits.{IsGathered, Waits}
 use Rattle.tau_machine.specs.Events.{Gathered, Leads, stop, record_first, anchor_first}
 use Rattle.tau_machine.proofs.At.{at_same}
 use Rattle.tau_outbox.specs.declared.Piece.{Piece}
@@ -32,7 +33,7 @@ use Rattle.tau_core.specs.declared.event.Event.TheVariants as event
 use Rattle.tau_core.specs.declared.event.Outcome.{Outcome}
 use Rattle.tau_core.specs.declared.event.Outcome.TheVariants as outcome
 use Rattle.tau_core.specs.Steps.{Steps, Happened, Unmoved}
-use Rattle.tau_run.specs.Turns.{Progress, Stays, Waits, IsGathered, Gathers, Flushed, is_going}
+use Rattle.tau_run.specs.Turns.{Progress, Stays, Gathers, Flushed, is_going}
 use Rattle.tau_run.specs.StopsLeave.{HasFront, HasSomeFront}
 use Rattle.tau_step.specs.declared.manager.Managing.{Managing}
 use Rattle.tau_step.specs.declared.manager.Managing.TheVariants as did
@@ -74,11 +75,11 @@ gathered_grown set j s s' (anchor_first {m = m} q rest) =
     grown_by j s m s' (record (s.streams j) { posted = q.others; moved = (s.streams j).moved ++ q.item ∷ [] }) q.item (ap (λ (c : Core). c.streams) q.after) refl refl refl (ap (λ (c : Core). c.plv) q.after) (gathered_grown set j m s' rest)
 
 -- pieces that may not be gathered are those of items that wait
-waits_items : (set : Setting) (m n : ℕ) (l : Load) (anchors : ℕ → List (List ℕ)) (s : Core) (j used : ℕ) (pieces : List Piece) (items : List Item) → slice_index s.plv j + used ≡ slice_index s.gathered j →
-    Stops (slice_index s.gathered j) used pieces → Paired (IsPieceOf l anchors) pieces items → Waits set m n s j items
-waits_items set m n l anchors s j used pieces [] e st q = tt
-waits_items set m n l anchors s j used [] (i ∷ is) e st q = absurd q
-waits_items set m n l anchors s j used (p ∷ ps) (i ∷ is) e st q = λ here.
+waits_items : (l : Load) (anchors : ℕ → List (List ℕ)) (s : Core) (j used : ℕ) (pieces : List Piece) (items : List Item) → slice_index s.plv j + used ≡ slice_index s.gathered j →
+    Stops (slice_index s.gathered j) used pieces → Paired (IsPieceOf l anchors) pieces items → Waits s j items
+waits_items l anchors s j used pieces [] e st q = tt
+waits_items l anchors s j used [] (i ∷ is) e st q = absurd q
+waits_items l anchors s j used (p ∷ ps) (i ∷ is) e st q = λ here.
     let start : p.start ≡ slice_index s.gathered j = q.0.start ∙ here in
     let past = q.0.past in
     elim (cases_lt (slice_index s.plv j + MAX_BODY) (past_of i)) [
@@ -90,15 +91,15 @@ module _ (p : Plain) (K : List (Act Txn)) (h : Hidden) (g : Stands p K h) (j : �
   used_is : (s : PlainStream) → slice_get p.streams j ≡ Some s → slice_index p.plv j + length s.body ≡ slice_index p.gathered j
   used_is s is = (let e = body_long p K h g j there s is in omega arith)
 
-  pub nothing_waits : core.IsGathered j p → IsGathered (setting_of p.load) p.load.workers p.load.streams j (core_of p h)
+  pub nothing_waits : core.AllGathered j p → IsGathered (setting_of p.load) p.load.workers j (core_of p h)
   nothing_waits q =
       let (s, is) = some_at p.streams j (let e = g.sound.streams in omega arith) in
       record {
         near = (let most : ℕ = MAX_BODY in let used = used_is s is in let small = (g.sound.wide j s is).1 in omega (arith, used, small));
-        own = waits_items (setting_of p.load) p.load.workers p.load.streams p.load (anchors_at p) (core_of p h) j (length s.body) s.own.pieces (h.own j) (used_is s is) (q.own s is s is) (g.own j s is);
+        own = waits_items p.load (anchors_at p) (core_of p h) j (length s.body) s.own.pieces (h.own j) (used_is s is) (q.own s is s is) (g.own j s is);
         posted = λ w lt whose.
             let (t, at) = some_at p.seats w (let e = g.sound.seats in omega arith) in
-            waits_items (setting_of p.load) p.load.workers p.load.streams p.load (anchors_at p) (core_of p h) j (length s.body) t.outbox.pieces (h.posted w) (used_is s is) (q.posted w t whose at s is) (g.posted w t at);
+            waits_items p.load (anchors_at p) (core_of p h) j (length s.body) t.outbox.pieces (h.posted w) (used_is s is) (q.posted w t whose at s is) (g.posted w t at);
       }
 
 module _ {D : Type 0} {G : Ghosts D} (j : ℕ) (catalogue : List ℕ) (w : Writer D G) (p m : Plain) (told : List (ℕ × List ℕ)) (K : List (Act Txn)) (h : Hidden) (es : List machine.Event)
@@ -154,13 +155,13 @@ module _ {D : Type 0} {G : Ghosts D} (j : ℕ) (catalogue : List ℕ) (w : Write
   abbrev behind_now : Progress
   behind_now = progress m q.hidden (es ++ machine.Gather j ∷ []) (K ++ q.joined) told
 
-  gathers : core.IsGathered j m → Gathers (setting_of p.load) p.load.workers p.load.streams j before_now behind_now
+  gathers : core.AllGathered j m → Gathers (setting_of p.load) p.load.workers p.load.streams j before_now behind_now
   gathers all = (
     record { new = q.joined; leads = q.leads; events = refl; joined = refl; told = refl },
-    subst (λ (d : Load). IsGathered (setting_of d) d.workers d.streams j (core_of m q.hidden)) q.load (nothing_waits m (K ++ q.joined) q.hidden q.stands j there_behind long_behind all),
+    subst (λ (d : Load). IsGathered (setting_of d) d.workers j (core_of m q.hidden)) q.load (nothing_waits m (K ++ q.joined) q.hidden q.stands j there_behind long_behind all),
   )
 
-  module _ (p' : Plain) (w' : Writer D G) (all : core.IsGathered j m) where
+  module _ (p' : Plain) (w' : Writer D G) (all : core.AllGathered j m) where
     pub manager_turns : (a : Managing) → GatheredTurns j catalogue w w' m p' told (K ++ q.joined) q.hidden (es ++ machine.Gather j ∷ []) a → ManagerTurns j catalogue w w' p p' told K h es a
     manager_turns a t =
         let P' = progress p' t.hidden t.events t.order told in

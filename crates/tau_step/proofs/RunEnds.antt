@@ -16,6 +16,7 @@ use Rattle.tau_machine.specs.Pieces.{Chain, Ascending, PostedAt, Flying, placed_
 use Rattle.tau_machine.specs.Invariant.{Invariant}
 use Rattle.tau_machine.specs.State.{Setting, Ticket, Item, Record, Core, Stream, Outbox, start_of, past_of}
 use Rattle.tau_machine.specs.Events.{Event, Lock, Busy, Quit, Commit, Post, Free, FirstFree, Done, DoneReading, Drop, Gather, PlaceAnchor, Persist, Ack, Stop, Resume, Leads, Gathered, stop, record_first, anchor_first}
+use Rattle.tau_machine.specs.Waits.{IsGathered, Waits}
 use Rattle.tau_machine.proofs.At.{at_same, at_other}
 use Rattle.tau_machine.proofs.Pieces.{chain_member, records_append}
 use Rattle.tau_machine.proofs.Results.{committed_theorem}
@@ -30,7 +31,7 @@ use Rattle.tau_run.specs.Schedule.{RunState, still, state_of, any_turn, Steps, I
 use Rattle.tau_run.proofs.LateSteps.{late, all_late, ends_in}
 use Rattle.tau_run.proofs.Still.{steps_still}
 use Rattle.tau_step.specs.RunsEnd.{HasEnded, WholeRunsEnd}
-use Rattle.tau_run.specs.Turns.{Progress, Stays, IfSo, Goes, Waits, IsGathered, Gathers, Flushed, is_raised, is_going, is_empty, any_left}
+use Rattle.tau_run.specs.Turns.{Progress, Stays, IfSo, Goes, Gathers, Flushed, is_raised, is_going, is_empty, any_left}
 use Rattle.tau_step.specs.TurnParts.{ManagedPart, Cleared, Clerked, OneByOne, has_work, is_busy}
 use Rattle.tau_step.proofs.Late.{Alone, LeftOver, Idled, wholes, wholes_append, drains, only}
 use Rattle.tau_step.proofs.Idling.{gathered_stop, stopped_there, none_some}
@@ -260,7 +261,7 @@ module _ (set : Setting) (m n : ℕ) where
 
   -- nothing more can be gathered of the stream, and it is persisted; or it was stopped
   record Settled (j : ℕ) (s : Core) : Type 0 where
-    gathered : IsGathered set m n j s
+    gathered : IsGathered set m j s
     persisted : slice_index s.gathered j ≡ slice_index s.plv j
 
   settled_apart : (j : ℕ) (s s' : Core) → Apart j s s' → Settled j s → Settled j s'
@@ -273,12 +274,12 @@ module _ (set : Setting) (m n : ℕ) where
     persisted = a.gathered ∙ g.persisted ∙ sym a.plv;
   }
     where
-      one : (xs : List Item) → Waits set m n s j xs → Waits set m n s' j xs
+      one : (xs : List Item) → Waits s j xs → Waits s' j xs
       one [] q = tt
       one (i ∷ xs) q = λ e. (let less = q (e ∙ a.gathered) in let p = a.plv in omega (arith, less, p))
 
-      waits : (xs ys : List Item) → ys ≡ xs → Waits set m n s j xs → Waits set m n s' j ys
-      waits xs ys e q = subst (λ (zs : List Item). Waits set m n s' j zs) (sym e) (one xs q)
+      waits : (xs ys : List Item) → ys ≡ xs → Waits s j xs → Waits s' j ys
+      waits xs ys e q = subst (λ (zs : List Item). Waits s' j zs) (sym e) (one xs q)
 
   is_equal : (a b : ℕ) → (a == b) ≡ true → a ≡ b
   is_equal a b e = elim (cases_eq a b) [ inl p ↦ p | inr ne ↦ absurd (not_both (a == b) (ne_eqb a b ne) e) ]
@@ -356,7 +357,7 @@ module _ (set : Setting) (m n : ℕ) where
 
   module _ (K : List (Act Txn)) (s : Core) (inv : Invariant set K s) (width : set.width ≡ n) (small : (k : ℕ) → set.worker_of k < m) (beyond : IsBeyond s) (short : AreShort s) where
     -- the first of those that are posted does not wait
-    first_short : (j : ℕ) (g : StreamGood set K s j) → slice_index s.gathered j ≡ slice_index s.plv j → (xs : List Item) → ((i : Item) → Member i xs → PostedAt set s j i) → Ascending xs → Waits set m n s j xs →
+    first_short : (j : ℕ) (g : StreamGood set K s j) → slice_index s.gathered j ≡ slice_index s.plv j → (xs : List Item) → ((i : Item) → Member i xs → PostedAt set s j i) → Ascending xs → Waits s j xs →
         ((i : Item) → Member i xs → past_of i ≤ start_of i + MAX_BODY) → (i : Item) → Member i xs → start_of i ≡ slice_index s.gathered j → ⊥
     first_short j g same [] posted up waits fits i q e = q
     first_short j g same (x ∷ xs) posted up waits fits i (inl is) e =

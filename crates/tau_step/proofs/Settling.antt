@@ -26,7 +26,7 @@ use Rattle.tau_core.specs.Phases.{hand_phase, phase_by, running_phase, finished_
 use Rattle.tau_core.specs.State.{Plain}
 use Rattle.tau_core.specs.View.{Hidden, setting_of, core_of}
 use Rattle.tau_core.specs.Stands.{Stands}
-use Rattle.tau_core.specs.Steps.{Steps, Happened, Unmoved, IsBarred}
+use Rattle.tau_core.specs.Steps.{Steps, Happened, Unmoved, IsBarredBy}
 use Rattle.tau_step.specs.Acting.{IsSettling, IsAlone, Settles}
 use Rattle.tau_machine.proofs.Leads.{locked_phase}
 
@@ -133,7 +133,7 @@ module _ (p p' : Plain) (K : List (Act Txn)) (h : Hidden) (g : Stands p K h) (w 
     lock_settles = settles q.hidden q.load (locks set w (core_of p h) (core_of p' q.hidden) q.leads.0)
 
   -- nobody stands against its lock
-  not_barred : IsAlone w p → (holder : ℕ) → IsBarred p h w holder → ⊥
+  not_barred : IsAlone w p → (holder : ℕ) → IsBarredBy p h w holder → ⊥
   not_barred alone holder (key, mode, wants, lowest) = elim (cases_eq holder w) [
     | inl e ↦ own (entry_in ((core_of p h).shards (shard_number key)) key).holders mode e lowest.0
     | inr ne ↦ other (entry_in ((core_of p h).shards (shard_number key)) key).holders mode

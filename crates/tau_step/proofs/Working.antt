@@ -10,6 +10,7 @@ use Rattle.tau_machine.specs.Shard.{entry_in}
 use Rattle.tau_machine.specs.State.{Core, hand_of}
 use Rattle.tau_shard.specs.Blocks.{against}
 use Rattle.tau_machine.specs.Events as machine
+use Rattle.tau_machine.specs.Waits.{BusyHasHolder, IsBarred}
 use Rattle.tau_machine.specs.Events.{Leads, ready}
 use Rattle.tau_core.specs.declared.event.Event.TheVariants as event
 use Rattle.tau_core.specs.declared.event.Outcome.{Outcome}
@@ -21,9 +22,8 @@ use Rattle.tau_core.specs.View.{Hidden, setting_of, core_of}
 use Rattle.tau_core.specs.Stands.{anchors_at}
 use Rattle.tau_core.specs.Pieces as core
 use Rattle.tau_core.specs.Phases.{hand_phase}
-use Rattle.tau_core.specs.Steps.{Steps, Happened, Unmoved, StandsElsewhere, IsBarred}
-use Rattle.tau_run.specs.Turns as run
-use Rattle.tau_run.specs.Turns.{Progress, Stays, Goes, NamesNewest, BusyHasHolder, QuitsLowest, IsOwn}
+use Rattle.tau_core.specs.Steps.{Steps, Happened, Unmoved, StandsElsewhere, IsBarredBy}
+use Rattle.tau_run.specs.Turns.{Progress, Stays, Goes, NamesNewest, QuitsLowest, IsOwn}
 use Rattle.tau_step.specs.Progressed as on
 use Rattle.tau_step.specs.Progressed.{progress, Comes}
 use Rattle.tau_step.specs.Acting.{Tells, Acts, WorkerTurned, raised, has_work_in}
@@ -52,7 +52,7 @@ blocks_other u w b e = elim (cases_eq u w) [
 ]
 
 -- the holder that the core names is another worker with the key that is wanted
-pub barred : (p : Plain) (h : Hidden) (w holder : ℕ) → IsBarred p h w holder → run.IsBarred (setting_of p.load) p.load.workers p.load.streams w (core_of p h)
+pub barred : (p : Plain) (h : Hidden) (w holder : ℕ) → IsBarredBy p h w holder → IsBarred (setting_of p.load) w (core_of p h)
 barred p h w holder (key, mode, wants, lowest) =
     let entry = entry_in ((core_of p h).shards (shard_number key)) key in
     let other = blocks_other holder w (against mode (entry.holders holder)) lowest.0 in
@@ -82,10 +82,10 @@ module _ (p p' : Plain) (K : List (Act Txn)) (h : Hidden) (es : List machine.Eve
   module _ (w : ℕ) where
     abbrev own_event : Progress → Progress → Type 0
     own_event P P' = (f : machine.Event) × IsOwn w f × (q : Goes (setting_of p.load) p.load.workers p.load.streams f P P') × NamesNewest (setting_of p.load) p.load.workers p.load.streams f P.state q.new ×
-        BusyHasHolder (setting_of p.load) p.load.workers p.load.streams f P.state × QuitsLowest (setting_of p.load) p.load.workers p.load.streams f P.state P'.state q.new q.leads
+        BusyHasHolder (setting_of p.load) f P.state × QuitsLowest (setting_of p.load) p.load.workers p.load.streams f P.state P'.state q.new q.leads
 
     pub worked : (e : machine.Event) → IsOwn w e → has_work_in p h w ≡ true → (q : Happened e p p' K h) → NamesNewest (setting_of p.load) p.load.workers p.load.streams e (core_of p h) q.joined →
-        BusyHasHolder (setting_of p.load) p.load.workers p.load.streams e (core_of p h) → QuitsLowest (setting_of p.load) p.load.workers p.load.streams e (core_of p h) (core_of p' q.hidden) q.joined q.leads → WorkerTurned w p p' K h es told (Ok true)
+        BusyHasHolder (setting_of p.load) e (core_of p h) → QuitsLowest (setting_of p.load) p.load.workers p.load.streams e (core_of p h) (core_of p' q.hidden) q.joined q.leads → WorkerTurned w p p' K h es told (Ok true)
     worked e own works q newest rightly lowest = (
       sym works,
       record {

@@ -3,9 +3,10 @@ use Rattle.std.specs.Prelude.{ℕ, ◌<◌, ◌≡◌, false, None, List, [], sl
 use Rattle.std.specs.List.{list_any}
 use Rattle.tau_base.specs.Vectors.{covers}
 use Rattle.tau_machine.specs.State.{Setting, Ticket, Core}
+use Rattle.tau_machine.specs.Waits.{IsGathered}
 use Rattle.tau_occ.specs.declared.style.Style.{Style}
 use Rattle.tau_text.specs.declared.load.Turn.{Turn}
-use Rattle.tau_run.specs.Turns.{is_raised, IsGathered}
+use Rattle.tau_run.specs.Turns.{is_raised}
 use Rattle.tau_run.specs.Schedule.{RunState, still, state_of, IsWhole}
 
 module _ (set : Setting) (m n : ℕ) where
@@ -14,7 +15,7 @@ module _ (set : Setting) (m n : ℕ) where
   pub record HasEnded (s : Core) : Type 0 where
     pub hands : (w : ℕ) → w < m → (s.workers w).hand ≡ None
     pub done : is_raised set m n s ≡ false → (w : ℕ) → w < m → ((s.workers w).waiting ≡ []) × ((s.workers w).left ≡ [])
-    pub gathered : (j : ℕ) → j < n → (s.streams j).stop ≡ None → IsGathered set m n j s × (slice_index s.gathered j ≡ slice_index s.plv j)
+    pub gathered : (j : ℕ) → j < n → (s.streams j).stop ≡ None → IsGathered set m j s × (slice_index s.gathered j ≡ slice_index s.plv j)
     pub told : (w : ℕ) → w < m → list_any (λ (k : Ticket). covers s.plv k.lv) (s.outboxes w).pending ≡ false
 
 -- A whole run in either style ends so, and nothing is peeked then.

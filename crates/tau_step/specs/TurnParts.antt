@@ -5,6 +5,7 @@ use Rattle.tau_base.specs.Vectors.{covers}
 use Rattle.tau_base.specs.declared.limits.TheConstants.{SHARDS}
 use Rattle.tau_machine.specs.State.{Setting, Ticket, Core}
 use Rattle.tau_machine.specs.Events.{Event, Drop}
+use Rattle.tau_machine.specs.Waits.{BusyHasHolder}
 use Rattle.tau_text.specs.declared.load.Turn.{Turn}
 use Rattle.tau_text.specs.declared.load.Turn.TheVariants as turn
 use Rattle.tau_run.specs.Run.{below}
@@ -24,7 +25,7 @@ module _ (set : Setting) (m n : ℕ) where
   abbrev pub Worked : ℕ → Progress → Progress → Type 0
   Worked w p p' =
       IfSo (has_work p.state w)
-      ((e : Event) × IsOwn w e × (q : run.Goes set m n e p p') × run.NamesNewest set m n e p.state q.new × run.BusyHasHolder set m n e p.state × run.QuitsLowest set m n e p.state p'.state q.new q.leads)
+      ((e : Event) × IsOwn w e × (q : run.Goes set m n e p p') × run.NamesNewest set m n e p.state q.new × BusyHasHolder set e p.state × run.QuitsLowest set m n e p.state p'.state q.new q.leads)
       (Stays p p')
 
   -- the manager gathers and flushes
