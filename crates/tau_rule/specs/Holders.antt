@@ -10,4 +10,4 @@ module _ (set : Setting) where
   -- the events lead from s to s' one after another, and each worker that is Busy by one of them is barred then
   abbrev pub LeadHeld : List Event → Core → Core → List (Act Txn) → Type 0
   LeadHeld [] s s' new = (s' ≡ s) × (new ≡ [])
-  LeadHeld (e ∷ es) s s' new = (m : Core) × (first rest : List (Act Txn)) × Leads set e s m first × BusyHasHolder e s × LeadHeld es m s' rest × (new ≡ first ++ rest)
+  LeadHeld (e ∷ es) s s' new = (m : Core) × (first rest : List (Act Txn)) × Leads set e s m first × BusyHasHolder set e s × LeadHeld es m s' rest × (new ≡ first ++ rest)
