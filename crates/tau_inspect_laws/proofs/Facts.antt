@@ -25,6 +25,7 @@ use Rattle.tau_scan.specs.declared.log.Log.{Log}
 use Rattle.tau_scan.specs.Epochs.{marks_of}
 use Rattle.tau_scan.specs.Reading.{counted, formatted, log_of, opened}
 use Rattle.tau_run.specs.CoreRun.{IsCourse, IsSoundLoad}
+use Rattle.tau_run.specs.Outside.{Outside}
 use Rattle.tau_run.specs.RecoveredFacts.{WaitsWithin, AreFrom, IsEnded}
 use Rattle.tau_run.specs.Run.{Run, last_db}
 use Rattle.tau_run.specs.RunFacts.{Ending, IsCoreRun, RunFacts, in_any_order}
@@ -132,19 +133,19 @@ pub ended_report_fits : EndedReportFits
 ended_report_fits n m mode load stops run sound room r images log o late rows present v h =
     run_report_fits n m mode load stops run sound room r images log o (inr (end_is_long n m mode load run images log o late)) rows present v h
 
-module _ (by : Bool → Load → Core → Progress → Type 0) (n m : ℕ) (mode : LogMode) (load : Workload) (unborn : Type 0) (past now : ℕ → List ℕ → Type 0) (rose : ℕ → Type 0) (sink_rose : Type 0) (opening : ℕ → ℕ) (made : ℕ → ℕ → Type 0)
-    (wrote : List ℕ → Type 0) (fault : ℕ → List ℕ) (ending : Ending) (f : RunFacts by n m mode load (fresh_start n) unborn past now rose sink_rose opening made wrote fault ending) (born : unborn)
-    (images : List (List ℕ)) (since : AreFrom past n images) (still : AreFrom now n images) (log : Log) (reads : log_of None images ≡ Ok log) where
-  -- a log of images that a stop now may leave is one of the run
+-- images that a stop now may leave of a run that began on streams without a byte
+module _ {by : Bool → Load → Core → Progress → Type 0} {n m : ℕ} {mode : LogMode} {load : Workload} {o : Outside} {ending : Ending} (f : RunFacts by n m mode load o ending) (fresh : o.start ≡ fresh_start n) (in_order : o.began_in_order)
+    (images : List (List ℕ)) (since : AreFrom o.may_have_left n images) (still : AreFrom o.may_leave n images) (log : Log) (reads : log_of None images ≡ Ok log) where
+  -- their log is one of the run
   pub of_facts : IsLogOfRun n m mode load f.run images log
-  of_facts = record { history = f.history; fresh = f.begins; recovered = f.imaged.each born images since; acknowledged = f.acknowledged images still log reads; count = still.0; reads = reads }
+  of_facts = record { history = f.history; fresh = f.begins ∙ fresh; recovered = f.imaged.each in_order images since; acknowledged = f.acknowledged images still log reads; count = still.0; reads = reads }
 
-  module _ (ended : IsEnded n mode load now rose f.run) where
+  module _ (ended : IsEnded n mode load o.may_leave o.disk_rose f.run) where
     image_low : (j : ℕ) (image : List ℕ) → slice_get images j ≡ Some image → j < n
     image_low j image g = subst (λ (k : ℕ). j < k) still.0 (got_within images j image g)
 
     -- it is long enough if no disk failed
-    pub long_if_flushed : ((j : ℕ) → j < n → rose j → ⊥) → IsLongEnough log.elv f.run
+    pub long_if_flushed : ((j : ℕ) → j < n → o.disk_rose j → ⊥) → IsLongEnough log.elv f.run
     long_if_flushed none = inl (whole_is_long n m mode load f.run images log of_facts (λ j image g. (let lt = image_low j image g in ended.flushed j image lt (none j lt) (still.1 j image g))))
 
     -- images that a stop may leave at the end are not older than it

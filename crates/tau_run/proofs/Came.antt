@@ -20,6 +20,7 @@ use Rattle.tau_run.specs.Start.{Start, old_at, opened_at, IsStart}
 use Rattle.tau_run.specs.Run.{Run, AllAcked, told_of}
 use Rattle.tau_run.specs.CoreRun.{IsCourse, IsLoadOn, IsRunOf, IsSoundLoad}
 use Rattle.tau_run.specs.Gives.{CameTo, came_far, Concluded, CutOff, Gave}
+use Rattle.tau_run.specs.Outside.{Outside}
 use Rattle.tau_run.specs.RecoveredFacts.{IsEnded}
 use Rattle.tau_run.specs.RunFacts.{Ending, IsCoreRun, IsCoreRunAt, RunTells, RunFacts}
 use Rattle.tau_run.specs.StopsLeave.{IsLeft, IsOver, Leaves, stops_in}
@@ -77,29 +78,35 @@ module _ {D : Type 0} {G : Ghosts D} (by by' : Bool → Load → Core → Progre
 
 -- ---- on streams that begin so
 
-module _ {D : Type 0} {G : Ghosts D} (by : Bool → Load → Core → Progress → Type 0) (n m : ℕ) (mode : LogMode) (load : Workload) (start : Start) (begins : IsStart (format_of mode) n load start) (sound : IsSoundLoad load) (l : Load) (load_is : IsLoadOn n m mode load start l)
-    (ws ws' : List (Writer D G)) (acks : List (ℕ × List ℕ)) (t : CameTo by (opened_at load start) l ws ws' acks) where
+-- The workload can be run from this start, and the core stands on just that.
+pub record BeginsOn (n m : ℕ) (mode : LogMode) (load : Workload) (start : Start) (l : Load) : Type 0 where
+  pub begins : IsStart (format_of mode) n load start
+  pub sound : IsSoundLoad load
+  pub load_is : IsLoadOn n m mode load start l
+
+module _ {D : Type 0} {G : Ghosts D} {by : Bool → Load → Core → Progress → Type 0} {n m : ℕ} {mode : LogMode} {load : Workload} {start : Start} {l : Load} {ws ws' : List (Writer D G)} {acks : List (ℕ × List ℕ)} (on : BeginsOn n m mode load start l)
+    (t : CameTo by (opened_at load start) l ws ws' acks) where
   -- the run that it has made
   abbrev pub run_of : Run
   run_of = record { start = start; calls = map told_of (reported t.state.ends t.joined); contents = t.contents; acks = acks }
 
   pub is_run : IsRunOf n l t.joined t.state load run_of
-  is_run = record { calls = refl; streams = t.streams ∙ load_is.streams; given = t.given; acks = t.acked }
+  is_run = record { calls = refl; streams = t.streams ∙ on.load_is.streams; given = t.given; acks = t.acked }
 
   pub course : IsCourse n m mode load start l t.joined t.state
   course = record {
-    room = subst (λ (k : ℕ). k ≤ most_streams (format_of l.mode)) load_is.streams t.room;
-    begins = subst (λ (k : LogMode). IsStart (format_of k) n load start) (sym load_is.mode_is) begins;
-    load_is = load_is;
-    sound = sound;
+    room = subst (λ (k : ℕ). k ≤ most_streams (format_of l.mode)) on.load_is.streams t.room;
+    begins = subst (λ (k : LogMode). IsStart (format_of k) n load start) (sym on.load_is.mode_is) on.begins;
+    load_is = on.load_is;
+    sound = on.sound;
     inv = run_theorem (setting_of l) t.opening t.events t.joined t.state t.led;
-    waits = waits_for n m mode load start l t.opening t.events t.joined t.state load_is t.led t.first;
+    waits = waits_for n m mode load start l t.opening t.events t.joined t.state on.load_is t.led t.first;
   }
 
   pub core_run : (whole : Bool) → by whole l t.opening (came_far t) → IsCoreRun (by whole) n m mode load (stops_in t.state) run_of
   core_run whole h = record {
     stands_on = l;
-    load_is = load_is;
+    load_is = on.load_is;
     opening = t.opening;
     first = t.first;
     progress = came_far t;
@@ -114,23 +121,24 @@ module _ {D : Type 0} {G : Ghosts D} (by : Bool → Load → Core → Progress �
   pub complete : IsOver n t.state → ((k : ℕ) → 1 ≤ k → k ≤ length l.calls → (w : ℕ) × (1 ≤ in_worker k (t.state.workers w))) → ((j : ℕ) → j < n → (t.state.streams j).stop ≡ None) → AllAcked load run_of
   complete over kept going =
       kept_acked n m mode load l t.joined t.state run_of course is_run over
-      (λ k low high. kept k low (let calls : length l.calls ≡ length load.calls = ap (length {A = Call}) load_is.calls in omega (arith, high, calls))) going
+      (λ k low high. kept k low (let calls : length l.calls ≡ length load.calls = ap (length {A = Call}) on.load_is.calls in omega (arith, high, calls))) going
 
-  module _ (past now : ℕ → List ℕ → Type 0) (rose : ℕ → Type 0) (leaves : Leaves n (old_at start) (opened_at load start) l t.state (λ j x. ⊥) now rose) where
-    pub facts_of : (unborn : Type 0) → (unborn → IsSound (format_of mode) start.old start.log start.base × ((j : ℕ) (x : List ℕ) → j < n → past j x → IsLeft n j (old_at start j) (opened_at load start j) l t.state x)) →
-        (sink_rose : Type 0) (opening : ℕ → ℕ) (made : ℕ → ℕ → Type 0) (wrote : List ℕ → Type 0) (fault : ℕ → List ℕ) (ending : Ending) → IsCoreRunAt by n m mode load (stops_in t.state) run_of ending →
-        RunTells (IsEnded n mode load now rose) n load (stops_in t.state) sink_rose opening made wrote fault run_of ending → RunFacts by n m mode load start unborn past now rose sink_rose opening made wrote fault ending
-    facts_of unborn left sink_rose opening made wrote fault ending core told = record {
-      run = run_of;
-      begins = refl;
-      history = history_law n m mode load l t.joined t.state run_of course is_run;
-      stops = stops_in t.state;
-      core = core;
-      stopped = leaves.stopped;
-      told = told;
-      imaged = imaged n m mode load l t.joined t.state run_of course is_run past now rose unborn left;
-      acknowledged = acknowledged n m mode load l t.joined t.state run_of course is_run (λ j x. ⊥) now rose leaves;
-    }
+  -- what is known of it outside
+  pub facts_of : (o : Outside) → start ≡ o.start → Leaves n (old_at start) (opened_at load start) l t.state (λ j x. ⊥) o.may_leave o.disk_rose →
+      (o.began_in_order → IsSound (format_of mode) start.old start.log start.base × ((j : ℕ) (x : List ℕ) → j < n → o.may_have_left j x → IsLeft n j (old_at start j) (opened_at load start j) l t.state x)) →
+      (ending : Ending) → IsCoreRunAt by n m mode load (stops_in t.state) run_of ending → RunTells n mode load o (stops_in t.state) run_of ending → RunFacts by n m mode load o ending
+  facts_of o begun leaves left ending core told = record {
+    run = run_of;
+    begins = begun;
+    history = history_law n m mode load l t.joined t.state run_of course is_run;
+    stops = stops_in t.state;
+    core = core;
+    stopped = leaves.stopped;
+    told = told;
+    imaged = imaged n m mode load l t.joined t.state run_of course is_run o.may_have_left o.may_leave o.disk_rose o.began_in_order left;
+    acknowledged = acknowledged n m mode load l t.joined t.state run_of course is_run (λ j x. ⊥) o.may_leave o.disk_rose leaves;
+  }
 
-    pub ended_of : IsOver n t.state → (((j : ℕ) → j < n → stops_in t.state j ≡ None) → AllAcked load run_of) → IsEnded n mode load now rose run_of
-    ended_of over complete = ended n m mode load l t.joined t.state run_of course is_run (λ j x. ⊥) now rose leaves over complete
+  pub ended_of : (now : ℕ → List ℕ → Type 0) (rose : ℕ → Type 0) → Leaves n (old_at start) (opened_at load start) l t.state (λ j x. ⊥) now rose → IsOver n t.state → (((j : ℕ) → j < n → stops_in t.state j ≡ None) → AllAcked load run_of) →
+      IsEnded n mode load now rose run_of
+  ended_of now rose leaves over complete = ended n m mode load l t.joined t.state run_of course is_run (λ j x. ⊥) now rose leaves over complete

@@ -11,6 +11,7 @@ pub mod Heard
 pub mod Writers
 pub mod Gives
 pub mod Laws
+pub mod Outside
 pub mod RunFacts
 pub mod Schedule
 pub mod Fits

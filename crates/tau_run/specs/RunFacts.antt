@@ -11,7 +11,7 @@ use Rattle.tau_machine.specs.State.{Core}
 use Rattle.tau_machine.specs.Runs as machine
 use Rattle.tau_core.specs.declared.state.Load.{Load}
 use Rattle.tau_core.specs.View.{setting_of}
-use Rattle.tau_run.specs.Start.{Start}
+use Rattle.tau_run.specs.Outside.{Outside}
 use Rattle.tau_run.specs.Run.{Run, IsHistory, IsReportOf, AllAcked}
 use Rattle.tau_run.specs.RecoveredFacts.{IsImaged, IsAcknowledged, IsEnded}
 use Rattle.tau_run.specs.CoreRun.{IsLoadOn, IsFirstState, IsRunOf}
@@ -31,17 +31,16 @@ pub data Ending : Type 0 where
 abbrev pub WroteFront : (List ℕ → Type 0) → Type 0 → List ℕ → Type 0
 WroteFront wrote sink_rose text = wrote text ⊎ ((k : ℕ) × (k < length text) × wrote (take k text) × sink_rose)
 
--- What was written of the run, by how it ended; `stops` tells where each stream was stopped, `opening` how many calls open
--- each disk, and `fault` is the line that tells of a disk that failed before the run began.
-abbrev pub RunTells : (ended : Run → Type 0) → ℕ → Workload → (ℕ → Option ℕ) → Type 0 → (ℕ → ℕ) → (ℕ → ℕ → Type 0) → (List ℕ → Type 0) → (ℕ → List ℕ) → Run → Ending → Type 0
-RunTells ended n load stops sink_rose opening made wrote fault run Done = ended run × NamesLowest n stops None × AllAcked load run × ((text : List ℕ) × IsReportOf load run None text × wrote text)
-RunTells ended n load stops sink_rose opening made wrote fault run (DiskFailed j) =
-    (ended run × NamesLowest n stops (Some j) × ((i : ℕ) → i < n → (k : ℕ) × (opening i ≤ k) × made i k) × ((text : List ℕ) × IsReportOf load run (Some j) text × wrote text))
-    ⊎ ((run.calls ≡ []) × (run.acks ≡ []) × ((k : ℕ) × (k ≤ opening j) × made j k) × WroteFront wrote sink_rose (fault j))
-RunTells ended n load stops sink_rose opening made wrote fault run SinkFailed =
-    ended run × ((text : List ℕ) × (failed : Option ℕ) × (k : ℕ) × IsReportOf load run failed text × NamesLowest n stops failed × (k < length text) × wrote (take k text))
-RunTells ended n load stops sink_rose opening made wrote fault run NoMemory = (k : ℕ) × WroteFront wrote sink_rose (ack_lines (take k run.acks))
-RunTells ended n load stops sink_rose opening made wrote fault run NotBegun = (run.calls ≡ []) × (run.acks ≡ [])
+-- What was written of the run, by how it ended; the function tells where each stream was stopped.
+abbrev pub RunTells : ℕ → LogMode → Workload → Outside → (ℕ → Option ℕ) → Run → Ending → Type 0
+RunTells n mode load o stops run Done = IsEnded n mode load o.may_leave o.disk_rose run × NamesLowest n stops None × AllAcked load run × ((text : List ℕ) × IsReportOf load run None text × o.wrote text)
+RunTells n mode load o stops run (DiskFailed j) =
+    (IsEnded n mode load o.may_leave o.disk_rose run × NamesLowest n stops (Some j) × ((i : ℕ) → i < n → (k : ℕ) × (o.opening_calls i ≤ k) × o.had_calls i k) × ((text : List ℕ) × IsReportOf load run (Some j) text × o.wrote text))
+    ⊎ ((run.calls ≡ []) × (run.acks ≡ []) × ((k : ℕ) × (k ≤ o.opening_calls j) × o.had_calls j k) × WroteFront o.wrote o.sink_rose (o.fault_line j))
+RunTells n mode load o stops run SinkFailed =
+    IsEnded n mode load o.may_leave o.disk_rose run × ((text : List ℕ) × (failed : Option ℕ) × (k : ℕ) × IsReportOf load run failed text × NamesLowest n stops failed × (k < length text) × o.wrote (take k text))
+RunTells n mode load o stops run NoMemory = (k : ℕ) × WroteFront o.wrote o.sink_rose (ack_lines (take k run.acks))
+RunTells n mode load o stops run NotBegun = (run.calls ≡ []) × (run.acks ≡ [])
 
 -- the turns of a workload; none where it has no section of them
 abbrev pub turns_of : Workload → List Turn
@@ -86,17 +85,16 @@ IsCoreRunAt by n m mode load stops run NotBegun = (run.calls ≡ []) × (run.ack
 IsCoreRunAt by n m mode load stops run (DiskFailed j) = IsCoreRun (by true) n m mode load stops run ⊎ ((run.calls ≡ []) × (run.acks ≡ []) × NamesLowest n stops None)
 IsCoreRunAt by n m mode load stops run other = IsCoreRun (by true) n m mode load stops run
 
--- The run began so. What was written is its report, each image of a stop since the entry is what was there and a closed
--- part of it, and a stop now leaves what it acknowledged.
-pub record RunFacts (by : Bool → Load → Core → Progress → Type 0) (n m : ℕ) (mode : LogMode) (load : Workload) (start : Start) (unborn : Type 0) (past now : ℕ → List ℕ → Type 0) (rose : ℕ → Type 0) (sink_rose : Type 0)
-    (opening : ℕ → ℕ) (made : ℕ → ℕ → Type 0) (wrote : List ℕ → Type 0) (fault : ℕ → List ℕ) (ending : Ending) : Type 0 where
+-- The run began on what the streams held. What was written is its report, each image of a stop since the entry is what was
+-- there and a closed part of it, and a stop now leaves what it acknowledged.
+pub record RunFacts (by : Bool → Load → Core → Progress → Type 0) (n m : ℕ) (mode : LogMode) (load : Workload) (outside : Outside) (ending : Ending) : Type 0 where
   pub run : Run
-  pub begins : run.start ≡ start
+  pub begins : run.start ≡ outside.start
   pub history : IsHistory n m load run
   -- it is of a run of the core, in which a stream stops only where its disk failed
   pub stops : ℕ → Option ℕ
   pub core : IsCoreRunAt by n m mode load stops run ending
-  pub stopped : (j k : ℕ) → stops j ≡ Some k → rose j
-  pub told : RunTells (IsEnded n mode load now rose) n load stops sink_rose opening made wrote fault run ending
-  pub imaged : IsImaged n mode load unborn past run
-  pub acknowledged : IsAcknowledged n load now run
+  pub stopped : (j k : ℕ) → stops j ≡ Some k → outside.disk_rose j
+  pub told : RunTells n mode load outside stops run ending
+  pub imaged : IsImaged n mode load outside.began_in_order outside.may_have_left run
+  pub acknowledged : IsAcknowledged n load outside.may_leave run
