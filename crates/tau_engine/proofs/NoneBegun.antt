@@ -15,7 +15,7 @@ use Rattle.tau_core.specs.declared.state.Load.{Load}
 use Rattle.tau_core.specs.View.{setting_of}
 use Rattle.tau_scan.specs.Sound.{IsSound}
 use Rattle.tau_run.specs.Run.{Run, has_ack}
-use Rattle.tau_run.specs.RecoveredFacts.{IsEnded}
+use Rattle.tau_run.specs.Outside.{Outside}
 use Rattle.tau_run.specs.Start.{Start, IsStart, old_at, opened_at}
 use Rattle.tau_machine.specs.Runs as machine
 use Rattle.tau_run.specs.CoreRun.{IsCourse, IsFirstState, IsRunOf, IsSoundLoad}
@@ -95,20 +95,19 @@ module _ (n m : ℕ) (mode : LogMode) (load : Workload) (start : Start) (rows : 
   no_ack : (k : ℕ) → has_ack run k ≡ true → ⊥
   no_ack k e = let f : false ≡ true = sym (ap (λ (acks : List (ℕ × List ℕ)). has_ack (record { start = run.start; calls = run.calls; contents = run.contents; acks = acks }) k) no_acks) ∙ e in cc f
 
-  pub facts_of_nothing : (premise : Type 0) (past now : ℕ → List ℕ → Type 0) (rose : ℕ → Type 0) (sink_rose : Type 0) (opening_calls : ℕ → ℕ) (made : ℕ → ℕ → Type 0) (wrote : List ℕ → Type 0) (fault : ℕ → List ℕ) (ending : Ending) → MayEnd ending →
-      (premise → IsSound (format_of mode) start.old start.log start.base × ((j : ℕ) (x : List ℕ) → j < n → past j x → HasContent (format_of mode) n j (old_at start j) x ⊎ HasContent (format_of mode) n j (opened_at load start j) x)) →
-      RunTells (IsEnded n mode load now rose) n load (λ j. None) sink_rose opening_calls made wrote fault run ending →
-      RunFacts (ran_by load.turns n m load) n m mode load start premise past now rose sink_rose opening_calls made wrote fault ending
-  facts_of_nothing premise past now rose sink_rose opening_calls made wrote fault ending may left tells = record {
+  pub facts_of_nothing : (o : Outside) → start ≡ o.start → (ending : Ending) → MayEnd ending →
+      (o.began_in_order → IsSound (format_of mode) start.old start.log start.base × ((j : ℕ) (x : List ℕ) → j < n → o.may_have_left j x → HasContent (format_of mode) n j (old_at start j) x ⊎ HasContent (format_of mode) n j (opened_at load start j) x)) →
+      RunTells n mode load o (λ j. None) run ending → RunFacts (ran_by load.turns n m load) n m mode load o ending
+  facts_of_nothing o begun ending may left tells = record {
     run = run;
-    begins = same_start;
+    begins = same_start ∙ begun;
     history = history_law n m mode load l [] opening run nothing.5 nothing.6;
     stops = λ j. None;
     core = core_at ending may;
     stopped = λ j k e. absurd (never_stopped k e);
     told = tells;
-    imaged = imaged n m mode load l [] opening run nothing.5 nothing.6 past now rose premise
-        (subst (λ (b : Start). premise → IsSound (format_of mode) b.old b.log b.base × ((j : ℕ) (x : List ℕ) → j < n → past j x → IsLeft n j (old_at b j) (opened_at load b j) l opening x)) (sym same_start)
+    imaged = imaged n m mode load l [] opening run nothing.5 nothing.6 o.may_have_left o.may_leave o.disk_rose o.began_in_order
+        (subst (λ (b : Start). o.began_in_order → IsSound (format_of mode) b.old b.log b.base × ((j : ℕ) (x : List ℕ) → j < n → o.may_have_left j x → IsLeft n j (old_at b j) (opened_at load b j) l opening x)) (sym same_start)
         (λ u. ((left u).0, λ j x lt q. is_left j x ((left u).1 j x lt q))));
     acknowledged = λ images from log reads x q e. absurd (no_ack x.call.number e);
   }

@@ -27,8 +27,7 @@ use Rattle.tau_core.specs.declared.state.Load.{Load}
 use Rattle.tau_core.specs.View.{setting_of, call_of, worker_of, from_on}
 use Rattle.tau_core.proofs.Turns.{call_there, once_there, whose_there}
 use Rattle.tau_run.specs.Run.{Run, told_of, below, IsHistory}
-use Rattle.tau_run.specs.RecoveredFacts.{IsEnded}
-use Rattle.tau_open.specs.Outside.{calls_to_open}
+use Rattle.tau_run.specs.Outside.{Outside}
 use Rattle.tau_run.specs.Start.{fresh_start, catalogue_of, old_at, opened_at}
 use Rattle.tau_run.proofs.Fresh.{fresh_begins, fresh_is_sound, fresh_olds, fresh_opened, fresh_load}
 use Rattle.tau_run.specs.CoreRun.{IsLoadOn, IsFirstState, IsGiven, IsRunOf}
@@ -253,13 +252,12 @@ module _ (n m : ℕ) (mode : LogMode) (load : Workload) (some : 1 ≤ n) (room :
       subst (λ (a : ℕ → List ℕ). IsLeft n j (a j) (opened_at load (fresh_start n) j) l first x) (sym (fresh_olds n)) (subst (λ (b : ℕ → List ℕ). IsLeft n j [] (b j) l first x) (sym (fresh_opened n load)) left)
 
   -- all that is said of it, where each image has nothing or the catalogue
-  abbrev built_of_none : (unborn : Type 0) (past now : ℕ → List ℕ → Type 0) (rose : ℕ → Type 0) (sink_rose : Type 0) (made : ℕ → ℕ → Type 0) (wrote : List ℕ → Type 0) (fault : ℕ → List ℕ) (ending : Ending) → MayEnd ending →
-      (unborn → (j : ℕ) (x : List ℕ) → j < n → past j x → HasContent One n j [] x ⊎ HasContent One n j catalogue x) →
-      RunTells (IsEnded n mode load now rose) n load (λ j. None) sink_rose (λ j. calls_to_open) made wrote fault empty_run ending →
-      RunFacts (chosen_by load.turns n m load) n m mode load (fresh_start n) unborn past now rose sink_rose (λ j. calls_to_open) made wrote fault ending
-  built_of_none unborn past now rose sink_rose made wrote fault ending may left tells = record {
+  abbrev built_of_none : (o : Outside) → fresh_start n ≡ o.start → (ending : Ending) → MayEnd ending →
+      (o.began_in_order → (j : ℕ) (x : List ℕ) → j < n → o.may_have_left j x → HasContent One n j [] x ⊎ HasContent One n j catalogue x) →
+      RunTells n mode load o (λ j. None) empty_run ending → RunFacts (chosen_by load.turns n m load) n m mode load o ending
+  built_of_none o begun ending may left tells = record {
     run = empty_run;
-    begins = refl;
+    begins = begun;
     history = history;
     stops = λ j. None;
     core = core_at ending may;
@@ -281,10 +279,9 @@ module _ (n m : ℕ) (mode : LogMode) (load : Workload) (some : 1 ≤ n) (room :
   }
 
   -- so it is where a disk failed before it began
-  pub told_of_failed : (j : ℕ) (unborn : Type 0) (past now : ℕ → List ℕ → Type 0) (rose : ℕ → Type 0) (sink_rose : Type 0) (made : ℕ → ℕ → Type 0) (wrote : List ℕ → Type 0) (fault : ℕ → List ℕ) →
-      (unborn → (i : ℕ) (x : List ℕ) → i < n → past i x → HasContent One n i [] x ⊎ HasContent One n i catalogue x) →
-      RunTells (IsEnded n mode load now rose) n load (λ i. None) sink_rose (λ i. calls_to_open) made wrote fault empty_run (told.DiskFailed j) →
-      (facts : RunFacts (chosen_by load.turns n m load) n m mode load (fresh_start n) unborn past now rose sink_rose (λ i. calls_to_open) made wrote fault (told.DiskFailed j)) × (facts.run.acks ≡ [])
+  pub told_of_failed : (j : ℕ) (o : Outside) → fresh_start n ≡ o.start → (o.began_in_order → (i : ℕ) (x : List ℕ) → i < n → o.may_have_left i x → HasContent One n i [] x ⊎ HasContent One n i catalogue x) →
+      RunTells n mode load o (λ i. None) empty_run (told.DiskFailed j) →
+      (facts : RunFacts (chosen_by load.turns n m load) n m mode load o (told.DiskFailed j)) × (facts.run.acks ≡ [])
       × ((none : (facts.run.calls ≡ []) × (facts.run.acks ≡ []) × NamesLowest n facts.stops None) × (facts.core ≡ inr none))
   unfolding core_at
-  told_of_failed j unborn past now rose sink_rose made wrote fault left tells = (built_of_none unborn past now rose sink_rose made wrote fault (told.DiskFailed j) tt left tells, refl, ((refl, refl, λ i lt. refl), refl))
+  told_of_failed j o begun left tells = (built_of_none o begun (told.DiskFailed j) tt left tells, refl, ((refl, refl, λ i lt. refl), refl))

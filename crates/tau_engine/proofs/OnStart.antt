@@ -11,7 +11,7 @@ use Rattle.tau_block.specs.Image.{HasContent}
 use Rattle.tau_disk.specs.declared.disk.Disk.{Ghosts}
 use Rattle.tau_disk.specs.Disk.{Rose, Passes}
 use Rattle.tau_disk.specs.Stages.{Went}
-use Rattle.tau_disk.specs.Used.{EachIn, RoseAt, IsFirstStopped, Made}
+use Rattle.tau_disk.specs.Used.{EachIn, RoseAt, IsFirstStopped}
 use Rattle.tau_stream.specs.declared.writer.Writer.{Writer}
 use Rattle.tau_stream.specs.Stream.{IsOldOrNew, IsUnborn}
 use Rattle.tau_stream.specs.Writer.{disk_of}
@@ -29,8 +29,8 @@ use Rattle.tau_report.specs.Report.{ack_lines, rest_text, report_text}
 use Rattle.tau_core.specs.declared.opening.Opening.{Opening}
 use Rattle.tau_core.specs.declared.state.Load.{Load}
 use Rattle.tau_core.specs.View.{setting_of}
-use Rattle.tau_scan.specs.Sound.{IsSound}
 use Rattle.tau_run.specs.Run.{Run, AllAcked, IsReportOf}
+use Rattle.tau_run.specs.Outside.{Outside}
 use Rattle.tau_run.specs.RecoveredFacts.{IsEnded}
 use Rattle.tau_run.specs.Start.{Start, IsStart, old_at, opened_at}
 use Rattle.tau_run.specs.CoreRun.{IsCourse, IsLoadOn, IsRunOf, IsSoundLoad}
@@ -43,18 +43,18 @@ use Rattle.tau_run.specs.Gives.{CameTo, came_far}
 use Rattle.tau_run.specs.Heard.{Heard}
 use Rattle.tau_run.specs.Writers.{EachOf, Left}
 use Rattle.tau_run.proofs.Came as of
+use Rattle.tau_run.proofs.Came.{BeginsOn}
 use Rattle.tau_begin.specs.Barrier.{IsBarrier}
 use Rattle.tau_begin.specs.Opened.{IsTouched, IsOpenRun}
 use Rattle.tau_begin.proofs.Barrier.{barrier_of, put_on}
 use Rattle.tau_commands.specs.declared.status.Status.{Status}
 use Rattle.tau_commands.specs.declared.status.Status.TheVariants as status
 use Rattle.tau_engine.specs.DiskFacts.{DisksWorked, NextClean, Now, ending_of}
-use Rattle.tau_commands.specs.Fault.{fault_text}
 use Rattle.tau_engine.specs.Opening.{opening_calls, SinceBarrier, EmptyAreUnborn}
-use Rattle.tau_commands.specs.Outside.{Wrote}
+use Rattle.tau_commands.specs.Outside.{Output, Wrote}
 use Rattle.tau_commands.specs.Recovery.{images_of}
 use Rattle.tau_engine.specs.Runs.{TellsEnd, ran_by}
-use Rattle.tau_engine.specs.RunSays.{EndsRun, FailsStarting, HasRun, OpenedClean, RunSays, HasSpacedOn}
+use Rattle.tau_engine.specs.RunSays.{DisksAndSink, EndsRun, FailsStarting, HasRun, OpenedClean, RunSays, HasSpacedOn, outside_of}
 use Rattle.tau_engine.proofs.OnOpened as on
 use Rattle.tau_engine.proofs.Reports.{reported_by}
 use Rattle.tau_engine.proofs.Streams.{OnlyNow, Way, Joined, mapped_got, opens_clean, rose_at, clean_below, first_stopped, made_all, leaves}
@@ -136,14 +136,17 @@ module _ {D : Type 0} {G : Ghosts D} (only_now : OnlyNow G) (n m : ℕ) (mode : 
     abbrev pub s : Core
     s = t.state
 
+    abbrev begun_on : BeginsOn n m mode load start l
+    begun_on = record { begins = begins; sound = sound; load_is = load_is }
+
     abbrev pub run : Run
-    run = of.run_of by n m mode load start begins sound l load_is ws ws' acks t
+    run = of.run_of begun_on t
 
     abbrev pub course : IsCourse n m mode load start l K s
-    course = of.course by n m mode load start begins sound l load_is ws ws' acks t
+    course = of.course begun_on t
 
     abbrev pub is : IsRunOf n l K s load run
-    is = of.is_run by n m mode load start begins sound l load_is ws ws' acks t
+    is = of.is_run begun_on t
 
     abbrev pub stops : ℕ → Option ℕ
     stops j = (s.streams j).stop
@@ -249,22 +252,20 @@ module _ {D : Type 0} {G : Ghosts D} (only_now : OnlyNow G) (n m : ℕ) (mode : 
     pub leaves_now : Leaves n (old_at start) (opened_at load start) l s (λ j x. ⊥) (Now G.tells G.may_leave old new) (RoseAt G.faults old new)
     leaves_now = leaves G n way l s streams_are old new there all (old_at start) stop_low
 
-    abbrev pub premise : Type 0
-    premise = EmptyAreUnborn G old n × IsSound f start.old start.log start.base
+    abbrev with_sink : Output → DisksAndSink D
+    with_sink out = record { old = old; new = new; sink = o }
 
-    pub facts : (sink_rose : Type 0) (made : ℕ → ℕ → Type 0) (wrote : List ℕ → Type 0) (fault : ℕ → List ℕ) (ended : Ending) → IsCoreRunAt by n m mode load stops run ended →
-        RunTells (IsEnded n mode load (Now G.tells G.may_leave old new) (RoseAt G.faults old new)) n load stops sink_rose (opening_calls sizes) made wrote fault run ended →
-        RunFacts by n m mode load start premise (SinceBarrier G barrier old new) (Now G.tells G.may_leave old new) (RoseAt G.faults old new) sink_rose (opening_calls sizes) made wrote fault ended
-    facts sink_rose made wrote fault ended core told =
-        of.facts_of by n m mode load start begins sound l load_is ws ws' acks t (SinceBarrier G barrier old new) (Now G.tells G.may_leave old new) (RoseAt G.faults old new) leaves_now premise
-        (λ u. (u.1, λ j x lt q. past_left u.0 j x lt q)) sink_rose (opening_calls sizes) made wrote fault ended core told
+    abbrev known : Output → Outside
+    known out = outside_of G n f (with_sink out) start barrier
+
+    facts : (out : Output) (ended : Ending) → IsCoreRunAt by n m mode load stops run ended → RunTells n mode load (known out) stops run ended → RunFacts by n m mode load (known out) ended
+    facts out ended core told = of.facts_of begun_on t (known out) refl leaves_now (λ u. (u.1, λ j x lt q. past_left u.0 j x lt q)) ended core told
 
     pub has_ended : IsOver n s → (((j : ℕ) → j < n → stops j ≡ None) → AllAcked load run) → IsEnded n mode load (Now G.tells G.may_leave old new) (RoseAt G.faults old new) run
-    has_ended over complete =
-        of.ended_of by n m mode load start begins sound l load_is ws ws' acks t (SinceBarrier G barrier old new) (Now G.tells G.may_leave old new) (RoseAt G.faults old new) leaves_now over complete
+    has_ended over complete = of.ended_of begun_on t (Now G.tells G.may_leave old new) (RoseAt G.faults old new) leaves_now over complete
 
     core_run : (whole : Bool) → by whole l t.opening (came_far t) → IsCoreRun (by whole) n m mode load stops run
-    core_run whole h = of.core_run by n m mode load start begins sound l load_is ws ws' acks t whole h
+    core_run whole h = of.core_run begun_on t whole h
 
     opened_clean : EachIn (λ j. j < n) (λ j. NextClean G.tells G.number G.fails (opening_calls sizes j)) old new
     opened_clean = opens_clean G n way l s streams_are old new there all
@@ -274,18 +275,14 @@ module _ {D : Type 0} {G : Ghosts D} (only_now : OnlyNow G) (n m : ℕ) (mode : 
     none_failed None low worked = refl
     none_failed (Some j) low worked = absurd (worked j low.0 (rose_at G n way l s streams_are old new there all j low.1.0 low.0 low.1.1))
 
-    module _ (hears : Type 0) (held held' : List ℕ) (faults faults' : ℕ) (answer : Status) where
-      abbrev Facts : Type 0
-      Facts = RunFacts by n m mode load start premise (SinceBarrier G barrier old new) (Now G.tells G.may_leave old new) (RoseAt G.faults old new) (Rose faults faults') (opening_calls sizes) (λ j k. G.tells → Made G.number G.short old new j k) (Wrote hears held held')
-          (λ j. fault_text (status.DiskFault j)) (ending_of answer)
-
+    module _ (out : Output) (answer : Status) where
       abbrev Spaces : Type 0
       Spaces = load.turns ≡ None → DisksWorked n (RoseAt G.faults old new) answer → (j : ℕ) (x : List ℕ) → j < n → Now G.tells G.may_leave old new j x → HasSpacedOn f n j load start x
 
       abbrev Fails : Type 0
-      Fails = (j : ℕ) → answer ≡ status.DiskFault j → FailsStarting G n m mode load old new hears held held' faults faults' answer j ⊎ OpenedClean G n m mode load old new hears held held' faults faults' answer
+      Fails = (j : ℕ) → answer ≡ status.DiskFault j → FailsStarting G n m mode load (with_sink out) answer j ⊎ OpenedClean G n m mode load (with_sink out) answer
 
-      pub has_run : EndsRun answer → Facts → Fails → Spaces → HasRun G n m mode load old new hears held held' faults faults' answer
+      has_run : EndsRun answer → RunFacts by n m mode load (known out) (ending_of answer) → Fails → Spaces → HasRun G n m mode load (with_sink out) answer
       has_run ends facts fails spaced = record {
         ends = ends;
         start = start;
@@ -301,34 +298,34 @@ module _ {D : Type 0} {G : Ghosts D} (only_now : OnlyNow G) (n m : ℕ) (mode : 
 
     -- ---- the run went to its end
 
-    module _ (e : RunEnd) (whole : by true l t.opening (came_far t)) (over : IsOver n s) (complete : ((j : ℕ) → j < n → stops j ≡ None) → AllAcked load run) (hears : Type 0) (held held1 held' : List ℕ) (faults faults1 faults' : ℕ) (early : faults ≤ faults1) (late : faults1 ≤ faults')
-        (heard : hears → Heard held acks e.sink_failed held1) (sink : e.sink_failed ≡ true → Rose faults faults1) (low : NamesLowest n (stops_in s) e.disk) (acks_are : e.report.acks ≡ acks)
+    module _ (e : RunEnd) (whole : by true l t.opening (came_far t)) (over : IsOver n s) (complete : ((j : ℕ) → j < n → stops j ≡ None) → AllAcked load run) (out : Output) (held1 : List ℕ) (faults1 : ℕ) (early : out.faults ≤ faults1) (late : faults1 ≤ out.faults')
+        (heard : out.hears → Heard out.held acks e.sink_failed held1) (sink : e.sink_failed ≡ true → Rose out.faults faults1) (low : NamesLowest n (stops_in s) e.disk) (acks_are : e.report.acks ≡ acks)
         (fates : e.report.fates ≡ fates_by (length l.calls) K acks) (order : e.report.order ≡ map (λ (t : Act Txn). t.call.call.number) (reported s.ends K))
         (tables : IsTablesOf (sight (setting_of l) s).row e.report.tables) (spaced : load.turns ≡ None → e.disk ≡ None → (j : ℕ) (x : List ℕ) → j < n → Now G.tells G.may_leave old new j x → HasSpacedOn f n j load start x) where
       abbrev declared : List (List ℕ)
       declared = load.declarations.tables
 
       abbrev Told : Status → Type 0
-      Told answer = RunSays G n m mode load old new hears held held' faults faults' answer
+      Told answer = RunSays G n m mode load (with_sink out) answer
 
       report_is : (failed : Option ℕ) → IsReportOf load run failed (report_text declared e.report failed)
       report_is failed =
           reported_by n m mode load l K s run course is e.report failed acks_are fates order tables over.rests
 
-      heard_by : (b : Bool) → e.sink_failed ≡ b → hears → Heard held e.report.acks b held1
-      heard_by b is told = subst (λ (a : List (ℕ × List ℕ)). Heard held a b held1) (sym acks_are) (subst (λ (x : Bool). Heard held acks x held1) is (heard told))
+      heard_by : (b : Bool) → e.sink_failed ≡ b → out.hears → Heard out.held e.report.acks b held1
+      heard_by b is told = subst (λ (a : List (ℕ × List ℕ)). Heard out.held a b held1) (sym acks_are) (subst (λ (x : Bool). Heard out.held acks x held1) is (heard told))
 
       lowest : (o : Option ℕ) → NamesLowest n (stops_in s) o → NamesLowest n stops o
       lowest None low = low
       lowest (Some j) low = low
 
-      tells_ok : (e.disk ≡ None) → e.sink_failed ≡ false → Wrote hears held1 held' (rest_text declared e.report None) → Told status.Ok
+      tells_ok : (e.disk ≡ None) → e.sink_failed ≡ false → Wrote out.hears held1 out.held' (rest_text declared e.report None) → Told status.Ok
       tells_ok none works wrote =
           let going : NamesLowest n stops None = lowest None (subst (λ (o : Option ℕ). NamesLowest n (stops_in s) o) none low) in
           record {
-            tells = inr (has_run hears held held' faults faults' status.Ok tt
-                (facts (Rose faults faults') (λ j k. G.tells → Made G.number G.short old new j k) (Wrote hears held held') (λ j. fault_text (status.DiskFault j)) ending.Done (core_run true whole)
-                (has_ended over complete, going, complete going, (report_text declared e.report None, report_is None, whole_text hears held held1 held' declared e.report None (heard_by false works) wrote)))
+            tells = inr (has_run out status.Ok tt
+                (facts out ending.Done (core_run true whole)
+                (has_ended over complete, going, complete going, (report_text declared e.report None, report_is None, whole_text out.hears out.held held1 out.held' declared e.report None (heard_by false works) wrote)))
                 (λ j f. absurd (cc)) (λ threads worked. spaced threads none));
             kind = tt;
             disk = λ j f. absurd (cc);
@@ -341,18 +338,18 @@ module _ {D : Type 0} {G : Ghosts D} (only_now : OnlyNow G) (n m : ℕ) (mode : 
             rest = rest;
           }
 
-      tells_disk : (j : ℕ) → (e.disk ≡ Some j) → e.sink_failed ≡ false → Wrote hears held1 held' (rest_text declared e.report (Some j)) → Told (status.DiskFault j)
+      tells_disk : (j : ℕ) → (e.disk ≡ Some j) → e.sink_failed ≡ false → Wrote out.hears held1 out.held' (rest_text declared e.report (Some j)) → Told (status.DiskFault j)
       tells_disk j names works wrote =
           let here : NamesLowest n stops (Some j) = lowest (Some j) (subst (λ (o : Option ℕ). NamesLowest n (stops_in s) o) names low) in
           let same : (i : ℕ) → status.DiskFault j ≡ status.DiskFault i → j ≡ i = λ i f. cc in
           record {
-            tells = inr (has_run hears held held' faults faults' (status.DiskFault j) tt
-                (facts (Rose faults faults') (λ i k. G.tells → Made G.number G.short old new i k) (Wrote hears held held') (λ i. fault_text (status.DiskFault i)) (ending.DiskFailed j) (inl (core_run true whole))
+            tells = inr (has_run out (status.DiskFault j) tt
+                (facts out (ending.DiskFailed j) (inl (core_run true whole))
                 (inl (
                   has_ended over complete,
                   here,
                   λ i lt. made_all G n way l s streams_are old new there all i lt,
-                  (report_text declared e.report (Some j), report_is (Some j), whole_text hears held held1 held' declared e.report (Some j) (heard_by false works) wrote),
+                  (report_text declared e.report (Some j), report_is (Some j), whole_text out.hears out.held held1 out.held' declared e.report (Some j) (heard_by false works) wrote),
                 )))
                 (λ i f. inr opened_clean) (λ threads worked. absurd worked));
             kind = tt;
@@ -366,10 +363,10 @@ module _ {D : Type 0} {G : Ghosts D} (only_now : OnlyNow G) (n m : ℕ) (mode : 
             rest = rest;
           }
 
-      tells_sink : Rose faults faults' → (i : ℕ) × (i < length (report_text declared e.report e.disk)) × Wrote hears held held' (take i (report_text declared e.report e.disk)) → Told status.WriteFault
+      tells_sink : Rose out.faults out.faults' → (i : ℕ) × (i < length (report_text declared e.report e.disk)) × Wrote out.hears out.held out.held' (take i (report_text declared e.report e.disk)) → Told status.WriteFault
       tells_sink rose cut = record {
-        tells = inr (has_run hears held held' faults faults' status.WriteFault tt
-            (facts (Rose faults faults') (λ j k. G.tells → Made G.number G.short old new j k) (Wrote hears held held') (λ j. fault_text (status.DiskFault j)) ending.SinkFailed (core_run true whole)
+        tells = inr (has_run out status.WriteFault tt
+            (facts out ending.SinkFailed (core_run true whole)
             (has_ended over complete, (report_text declared e.report e.disk, e.disk, cut.0, report_is e.disk, lowest e.disk low, cut.1, cut.2)))
             (λ j f. absurd (cc)) (λ threads worked. spaced threads (none_failed e.disk (lowest e.disk low) worked)));
         kind = tt;
@@ -383,11 +380,11 @@ module _ {D : Type 0} {G : Ghosts D} (only_now : OnlyNow G) (n m : ℕ) (mode : 
         rest = rest;
       }
 
-      tells_memory : e.sink_failed ≡ false → held' ≡ held1 → Told status.NoMemory
+      tells_memory : e.sink_failed ≡ false → out.held' ≡ held1 → Told status.NoMemory
       tells_memory works same = record {
-        tells = inr (has_run hears held held' faults faults' status.NoMemory tt
-            (facts (Rose faults faults') (λ j k. G.tells → Made G.number G.short old new j k) (Wrote hears held held') (λ j. fault_text (status.DiskFault j)) ending.NoMemory (core_run false t.part)
-            (length run.acks, inl (λ told. same ∙ heard_by false works told ∙ ap (λ (a : List (ℕ × List ℕ)). held ++ ack_lines a) (acks_are ∙ sym (take_long (length run.acks) run.acks (omega arith))))))
+        tells = inr (has_run out status.NoMemory tt
+            (facts out ending.NoMemory (core_run false t.part)
+            (length run.acks, inl (λ told. same ∙ heard_by false works told ∙ ap (λ (a : List (ℕ × List ℕ)). out.held ++ ack_lines a) (acks_are ∙ sym (take_long (length run.acks) run.acks (omega arith))))))
             (λ j f. absurd (cc)) (λ threads worked. absurd worked));
         kind = tt;
         disk = λ j f. absurd (cc);
@@ -400,15 +397,15 @@ module _ {D : Type 0} {G : Ghosts D} (only_now : OnlyNow G) (n m : ℕ) (mode : 
         rest = rest;
       }
 
-      pub tells_end : (answer : Status) → TellsEnd declared e hears held1 held' (Rose faults1 faults') answer → Told answer
+      pub tells_end : (answer : Status) → TellsEnd declared e out.hears held1 out.held' (Rose faults1 out.faults') answer → Told answer
       tells_end status.Ok h = tells_ok h.1 h.0 h.2
       tells_end (status.DiskFault j) h = tells_disk j h.1 h.0 h.2
       tells_end status.WriteFault (inl gone) =
           let rose = sink gone.0 in
-          tells_sink (omega (arith, rose, late)) (lines_cut hears held held1 held' declared e.report e.disk (λ told. subst (λ (x : List ℕ). Heard held e.report.acks true x) (sym gone.1) (heard_by true gone.0 told)))
+          tells_sink (omega (arith, rose, late)) (lines_cut out.hears out.held held1 out.held' declared e.report e.disk (λ told. subst (λ (x : List ℕ). Heard out.held e.report.acks true x) (sym gone.1) (heard_by true gone.0 told)))
       tells_end status.WriteFault (inr cut) =
           let rose = cut.1 in
-          tells_sink (omega (arith, rose, early)) (rest_cut hears held held1 held' declared e.report e.disk cut.2.0 cut.2.1 (heard_by false cut.0) cut.2.2)
+          tells_sink (omega (arith, rose, early)) (rest_cut out.hears out.held held1 out.held' declared e.report e.disk cut.2.0 cut.2.1 (heard_by false cut.0) cut.2.2)
       tells_end status.NoMemory h = tells_memory h.0 h.1
       tells_end status.Usage h = absurd h
       tells_end (status.BadText at why) h = absurd h
@@ -419,14 +416,14 @@ module _ {D : Type 0} {G : Ghosts D} (only_now : OnlyNow G) (n m : ℕ) (mode : 
       tells_end (status.BadReport number) h = absurd h
 
     -- it was out of memory before its end: one history, of which the first acknowledgements were told
-    pub cuts_off : (hears : Type 0) (held held1 held' : List ℕ) (faults faults1 faults' : ℕ) → faults1 ≤ faults' → (count : ℕ) (sink_failed : Bool) → (hears → Heard held (take count acks) sink_failed held1) → (sink_failed ≡ true → Rose faults faults1) → held' ≡ held1 →
-        RunSays G n m mode load old new hears held held' faults faults' status.NoMemory
-    cuts_off hears held held1 held' faults faults1 faults' late count sink_failed heard sink same = record {
-      tells = inr (has_run hears held held' faults faults' status.NoMemory tt
-          (facts (Rose faults faults') (λ j k. G.tells → Made G.number G.short old new j k) (Wrote hears held held') (λ j. fault_text (status.DiskFault j)) ending.NoMemory (core_run false t.part) (
+    pub cuts_off : (out : Output) (held1 : List ℕ) (faults1 : ℕ) → faults1 ≤ out.faults' → (count : ℕ) (sink_failed : Bool) → (out.hears → Heard out.held (take count acks) sink_failed held1) → (sink_failed ≡ true → Rose out.faults faults1) → out.held' ≡ held1 →
+        RunSays G n m mode load (with_sink out) status.NoMemory
+    cuts_off out held1 faults1 late count sink_failed heard sink same = record {
+      tells = inr (has_run out status.NoMemory tt
+          (facts out ending.NoMemory (core_run false t.part) (
             count,
-            heard_front hears held held' (Rose faults faults') (take count acks) sink_failed
-                (λ told. subst (λ (h : List ℕ). Heard held (take count acks) sink_failed h) (sym same) (heard told))
+            heard_front out.hears out.held out.held' (Rose out.faults out.faults') (take count acks) sink_failed
+                (λ told. subst (λ (h : List ℕ). Heard out.held (take count acks) sink_failed h) (sym same) (heard told))
                 (λ e. (let rose = sink e in omega (arith, rose, late))),
           ))
           (λ j f. absurd (cc)) (λ threads worked. absurd worked));

@@ -12,9 +12,10 @@ use Rattle.tau_disk.specs.Passing.{passes_none}
 use Rattle.tau_disk.specs.Used.{EachIn, RoseAt, Made}
 use Rattle.tau_stream.specs.Stream.{IsOldOrNew, IsUnborn}
 use Rattle.tau_open.specs.declared.start.StreamStart.{StreamStart}
+use Rattle.tau_model.specs.Tables.{db_of_rows}
 use Rattle.tau_text.specs.declared.load.Workload.{Workload}
 use Rattle.tau_text.specs.Canonical.{declarations_text}
-use Rattle.tau_run.specs.RecoveredFacts.{IsEnded}
+use Rattle.tau_run.specs.Outside.{Outside}
 use Rattle.tau_run.specs.Start.{Start, IsStart, old_at, opened_at}
 use Rattle.tau_run.specs.CoreRun.{IsSoundLoad}
 use Rattle.tau_run.specs.RunFacts.{RunTells}
@@ -25,12 +26,12 @@ use Rattle.tau_begin.specs.Reading.{calls_before_writes}
 use Rattle.tau_begin.proofs.Barrier.{barrier_of, put_on}
 use Rattle.tau_commands.specs.declared.status.Status.{Status}
 use Rattle.tau_commands.specs.declared.status.Status.TheVariants as status
-use Rattle.tau_engine.specs.DiskFacts.{DisksWorked, Now, ending_of}
+use Rattle.tau_engine.specs.DiskFacts.{DisksWorked, ending_of}
 use Rattle.tau_commands.specs.Fault.{fault_text}
 use Rattle.tau_engine.specs.Opening.{opening_calls, SinceBarrier, EmptyAreUnborn}
-use Rattle.tau_commands.specs.Outside.{Wrote}
+use Rattle.tau_commands.specs.Outside.{Output, Wrote}
 use Rattle.tau_commands.specs.Recovery.{images_of}
-use Rattle.tau_engine.specs.RunSays.{EndsRun, FailsStarting, HasRun}
+use Rattle.tau_engine.specs.RunSays.{DisksAndSink, EndsRun, FailsStarting, HasRun, outside_of}
 use Rattle.tau_engine.proofs.NoneBegun as none
 use Rattle.tau_engine.proofs.OnOpened as on
 use Rattle.tau_engine.proofs.Streams.{OnlyNow}
@@ -120,37 +121,44 @@ module _ {D : Type 0} {G : Ghosts D} (only_now : OnlyNow G) (n m : ℕ) (mode : 
       (h.now, h.is, λ tells. subst (λ (z : D). IsBarrier G (barrier j) z h.now) (some_is h.disk d (sym h.was ∙ was)) (put_barrier tells unborn j lt))
 
   -- it is the run that made nothing
-  pub has_nothing : (hears : Type 0) (held held' : List ℕ) (faults faults' : ℕ) (answer : Status) → EndsRun answer → none.MayEnd n m mode load start begun.opening.rows some room workers begins sound (on.opening_on G (format_of mode) n load old there sizes starts begun begun.opening refl).rows (ending_of answer) →
-      RunTells (IsEnded n mode load (Now G.tells G.may_leave old new) (RoseAt G.faults old new)) n load (λ j. None) (Rose faults faults') (opening_calls (map length (images_of G.seen old n))) (λ j k. G.tells → Made G.number G.short old new j k) (Wrote hears held held')
-      (λ j. fault_text (status.DiskFault j)) (none.run n m mode load start begun.opening.rows some room workers begins sound (on.opening_on G (format_of mode) n load old there sizes starts begun begun.opening refl).rows) (ending_of answer) →
-      ((j : ℕ) → answer ≡ status.DiskFault j → FailsStarting G n m mode load old new hears held held' faults faults' answer j) → (DisksWorked n (RoseAt G.faults old new) answer → ⊥) → HasRun G n m mode load old new hears held held' faults faults' answer
-  has_nothing hears held held' faults faults' answer ends may told fails broke = record {
-    ends = ends;
-    start = start;
-    begins = begins;
-    contents = λ tells. on.contents_are G (format_of mode) n load old there sizes starts begun tells;
-    fits = λ tells. on.fits_are G (format_of mode) n load old there sizes starts begun tells;
-    barrier = barrier;
-    barriers = barriers;
-    facts = none.facts_of_nothing n m mode load start begun.opening.rows some room workers begins sound (on.opening_on G (format_of mode) n load old there sizes starts begun begun.opening refl).rows _ (SinceBarrier G barrier old new) (Now G.tells G.may_leave old new)
-        (RoseAt G.faults old new) (Rose faults faults') (opening_calls (map length (images_of G.seen old n))) (λ j k. G.tells → Made G.number G.short old new j k) (Wrote hears held held') (λ j. fault_text (status.DiskFault j)) (ending_of answer) may
-        (λ u. (u.1, λ j x lt q. past_left u.0 j x lt q)) told;
-    fails = λ j e. inl (fails j e);
-    spaced = λ threads worked. absurd (broke worked);
-  }
+  module _ (o : Output) where
+    abbrev with_sink : DisksAndSink D
+    with_sink = record { old = old; new = new; sink = o }
 
-  -- what is told of it where memory ran out, and where a disk failed
-  pub memory_told : (hears : Type 0) (held held' : List ℕ) (faults faults' : ℕ) → Wrote hears held held' [] → HasRun G n m mode load old new hears held held' faults faults' status.NoMemory
-  memory_told hears held held' faults faults' silent = has_nothing hears held held' faults faults' status.NoMemory tt tt (0, inl silent) (λ j e. absurd (cc)) (λ worked. worked)
+    abbrev known : Outside
+    known = outside_of G n (format_of mode) with_sink start barrier
 
-  pub failed_told : (hears : Type 0) (held held' : List ℕ) (faults faults' : ℕ) (j : ℕ) → ((k : ℕ) × (calls_before_writes (slice_index (map length (images_of G.seen old n)) j) < k) × (k ≤ opening_calls (map length (images_of G.seen old n)) j) × (G.tells → Made G.number G.short old new j k)) →
-      ending.WroteFront (Wrote hears held held') (Rose faults faults') (fault_text (status.DiskFault j)) → HasRun G n m mode load old new hears held held' faults faults' (status.DiskFault j)
-  failed_told hears held held' faults faults' j made line =
-      has_nothing hears held held' faults faults' (status.DiskFault j) tt tt
-      (inr (
-        none.no_calls n m mode load start begun.opening.rows some room workers begins sound (on.opening_on G (format_of mode) n load old there sizes starts begun begun.opening refl).rows,
-        none.no_acks n m mode load start begun.opening.rows some room workers begins sound (on.opening_on G (format_of mode) n load old there sizes starts begun begun.opening refl).rows,
-        (made.0, made.2, made.3),
-        line,
-      ))
-      (λ i e. subst (λ (k : ℕ). FailsStarting G n m mode load old new hears held held' faults faults' (status.DiskFault j) k) (same_disk j i e) (made, line)) (λ worked. worked)
+    abbrev rows_are : db_of_rows begun.opening.rows ≡ start.base
+    rows_are = (on.opening_on G (format_of mode) n load old there sizes starts begun begun.opening refl).rows
+
+    pub has_nothing : (answer : Status) → EndsRun answer → none.MayEnd n m mode load start begun.opening.rows some room workers begins sound rows_are (ending_of answer) →
+        RunTells n mode load known (λ j. None) (none.run n m mode load start begun.opening.rows some room workers begins sound rows_are) (ending_of answer) →
+        ((j : ℕ) → answer ≡ status.DiskFault j → FailsStarting G n m mode load with_sink answer j) → (DisksWorked n (RoseAt G.faults old new) answer → ⊥) → HasRun G n m mode load with_sink answer
+    has_nothing answer ends may told fails broke = record {
+      ends = ends;
+      start = start;
+      begins = begins;
+      contents = λ tells. on.contents_are G (format_of mode) n load old there sizes starts begun tells;
+      fits = λ tells. on.fits_are G (format_of mode) n load old there sizes starts begun tells;
+      barrier = barrier;
+      barriers = barriers;
+      facts = none.facts_of_nothing n m mode load start begun.opening.rows some room workers begins sound rows_are known refl (ending_of answer) may (λ u. (u.1, λ j x lt q. past_left u.0 j x lt q)) told;
+      fails = λ j e. inl (fails j e);
+      spaced = λ threads worked. absurd (broke worked);
+    }
+
+    -- what is told of it where memory ran out, and where a disk failed
+    pub memory_told : Wrote o.hears o.held o.held' [] → HasRun G n m mode load with_sink status.NoMemory
+    memory_told silent = has_nothing status.NoMemory tt tt (0, inl silent) (λ j e. absurd (cc)) (λ worked. worked)
+
+    pub failed_told : (j : ℕ) → ((k : ℕ) × (calls_before_writes (slice_index (map length (images_of G.seen old n)) j) < k) × (k ≤ opening_calls (map length (images_of G.seen old n)) j) × (G.tells → Made G.number G.short old new j k)) →
+        ending.WroteFront (Wrote o.hears o.held o.held') (Rose o.faults o.faults') (fault_text (status.DiskFault j)) → HasRun G n m mode load with_sink (status.DiskFault j)
+    failed_told j made line =
+        has_nothing (status.DiskFault j) tt tt
+        (inr (
+          none.no_calls n m mode load start begun.opening.rows some room workers begins sound rows_are,
+          none.no_acks n m mode load start begun.opening.rows some room workers begins sound rows_are,
+          (made.0, made.2, made.3),
+          line,
+        ))
+        (λ i e. subst (λ (k : ℕ). FailsStarting G n m mode load with_sink (status.DiskFault j) k) (same_disk j i e) (made, line)) (λ worked. worked)

@@ -25,8 +25,9 @@ use Rattle.tau_run.specs.Turns.{Progress}
 use Rattle.tau_run.specs.Gives.{CameTo, came_far}
 use Rattle.tau_run.specs.Writers.{EachOf, Left}
 use Rattle.tau_run.proofs.Came as of
+use Rattle.tau_run.proofs.Came.{BeginsOn}
 use Rattle.tau_engine.specs.DiskFacts.{Now}
-use Rattle.tau_engine.proofs.Streams.{OnlyNow, Way, fresh_way, Joined, joined, leaves, Past}
+use Rattle.tau_engine.proofs.Streams.{OnlyNow, Way, fresh_way, Joined, joined, leaves}
 
 module _ {D : Type 0} {G : Ghosts D} (only_now : OnlyNow G) (n m : ℕ) (mode : LogMode) (load : Workload) (sound : IsSoundLoad load) (l : Load) (load_is : IsLoadOn n m mode load (fresh_start n) l) (ws ws' : List (Writer D G)) (acks : List (ℕ × List ℕ))
     (t : CameTo (chosen_by load.turns n m load) (opened_at load (fresh_start n)) l ws ws' acks) where
@@ -42,14 +43,17 @@ module _ {D : Type 0} {G : Ghosts D} (only_now : OnlyNow G) (n m : ℕ) (mode : 
   abbrev s : Core
   s = t.state
 
+  abbrev pub begun_on : BeginsOn n m mode load (fresh_start n) l
+  begun_on = record { begins = begins; sound = sound; load_is = load_is }
+
   abbrev pub run : Run
-  run = of.run_of by n m mode load (fresh_start n) begins sound l load_is ws ws' acks t
+  run = of.run_of begun_on t
 
   abbrev pub course : IsCourse n m mode load (fresh_start n) l K s
-  course = of.course by n m mode load (fresh_start n) begins sound l load_is ws ws' acks t
+  course = of.course begun_on t
 
   abbrev pub is : IsRunOf n l K s load run
-  is = of.is_run by n m mode load (fresh_start n) begins sound l load_is ws ws' acks t
+  is = of.is_run begun_on t
 
   pub writers : EachOf (λ j w w'. Left l s j (catalogue_of load) w w') ws ws'
   writers = subst (λ (b : ℕ → List ℕ). EachOf (λ j w w'. Left l s j (b j) w w') ws ws') (fresh_opened n load) t.writers
@@ -70,7 +74,7 @@ module _ {D : Type 0} {G : Ghosts D} (only_now : OnlyNow G) (n m : ℕ) (mode : 
   stop_low j at e = subst (λ (k : ℕ). j < k) load_is.streams (t.stop_low j at e)
 
   pub core_run : (whole : Bool) → by whole l t.opening (came_far t) → IsCoreRun (by whole) n m mode load stops run
-  core_run whole h = of.core_run by n m mode load (fresh_start n) begins sound l load_is ws ws' acks t whole h
+  core_run whole h = of.core_run begun_on t whole h
 
   module _ (old mid new : List D) (many : n ≤ length old) (streams : AreOpened G n (catalogue_of load) old mid ws) (back : new ≡ map disk_of ws' ++ mid) where
     pub all : EachIn (λ j. j < n) (Joined G n way l s) old new
@@ -86,5 +90,4 @@ module _ {D : Type 0} {G : Ghosts D} (only_now : OnlyNow G) (n m : ℕ) (mode : 
     at_leaves = fresh_leaves
 
     pub has_ended : IsOver n s → (((j : ℕ) → j < n → stops j ≡ None) → AllAcked load run) → IsEnded n mode load (Now G.tells G.may_leave old new) (RoseAt G.faults old new) run
-    has_ended over complete =
-        of.ended_of by n m mode load (fresh_start n) begins sound l load_is ws ws' acks t (Past G old new) (Now G.tells G.may_leave old new) (RoseAt G.faults old new) fresh_leaves over complete
+    has_ended over complete = of.ended_of begun_on t (Now G.tells G.may_leave old new) (RoseAt G.faults old new) fresh_leaves over complete

@@ -38,10 +38,10 @@ use Rattle.tau_commands.specs.declared.status.Status.{Status}
 use Rattle.tau_commands.specs.declared.status.Status.TheVariants as status
 use Rattle.tau_commands.specs.Fault.{fault_text, TellsFault}
 use Rattle.tau_engine.specs.Opening.{opening_calls, HasBarrier, IsUnwritten}
-use Rattle.tau_commands.specs.Outside.{Wrote}
+use Rattle.tau_commands.specs.Outside.{Output, Wrote}
 use Rattle.tau_commands.specs.Recovery.{images_of}
 use Rattle.tau_commands.specs.First.{status_at}
-use Rattle.tau_engine.specs.RunSays.{HasRun, IsRunRefused, OnlyOpened, RunSays}
+use Rattle.tau_engine.specs.RunSays.{DisksAndSink, HasRun, IsRunRefused, OnlyOpened, RunSays}
 use Rattle.tau_engine.proofs.OnOpened.{calls_are, same_sizes, size_is, starts_long}
 use Rattle.tau_engine.proofs.OnlyTouched as touched
 use Rattle.tau_engine.proofs.Streams.{OnlyNow}
@@ -77,7 +77,7 @@ late_made G before count d e some within = (
 )
 
 module _ {D : Type 0} (G : Ghosts D) (only_now : OnlyNow G) (n m : ℕ) (mode : LogMode) (load : Workload) (some : 1 ≤ n) (room : n ≤ most_streams (format_of mode)) (workers : 1 ≤ m) (sound : IsSoundLoad load) (old new : List D) (there : n ≤ length old) (rest : drop n new ≡ drop n old)
-    (hears : Type 0) (held held' : List ℕ) (faults faults' : ℕ) where
+    (o : Output) where
   abbrev f : Format
   f = format_of mode
 
@@ -87,11 +87,17 @@ module _ {D : Type 0} (G : Ghosts D) (only_now : OnlyNow G) (n m : ℕ) (mode : 
   abbrev sizes : List ℕ
   sizes = map length (images_of G.seen old n)
 
+  abbrev with_sink : DisksAndSink D
+  with_sink = record { old = old; new = new; sink = o }
+
   abbrev Told : Status → Type 0
-  Told answer = RunSays G n m mode load old new hears held held' faults faults' answer
+  Told answer = RunSays G n m mode load with_sink answer
 
   abbrev wrote : List ℕ → Type 0
-  wrote = Wrote hears held held'
+  wrote = Wrote o.hears o.held o.held'
+
+  abbrev sink_rose : Type 0
+  sink_rose = Rose o.faults o.faults'
 
   size_at : (j : ℕ) (d : D) → j < n → slice_get old j ≡ Some d → slice_index sizes j ≡ length (G.seen d)
   size_at j d lt was = length_at (images_of G.seen old n) j (G.seen d) (map_get G.seen (take n old) j d (get_take old n j lt ∙ was))
@@ -183,7 +189,7 @@ module _ {D : Type 0} (G : Ghosts D) (only_now : OnlyNow G) (n m : ℕ) (mode : 
 
   -- ---- memory ran out
 
-  pub says_memory : OnlyOpened G n m mode load old new hears held held' faults faults' status.NoMemory ⊎ HasRun G n m mode load old new hears held held' faults faults' status.NoMemory → Told status.NoMemory
+  pub says_memory : OnlyOpened G n m mode load with_sink status.NoMemory ⊎ HasRun G n m mode load with_sink status.NoMemory → Told status.NoMemory
   says_memory tells = record {
     tells = tells;
     kind = tt;
@@ -208,7 +214,7 @@ module _ {D : Type 0} (G : Ghosts D) (only_now : OnlyNow G) (n m : ℕ) (mode : 
     pub here : OfDisk (Broke G count) old new j
     pub clean : EachIn (λ i. i < j) (λ i. IsClean G.tells G.number G.fails) old new
 
-  says_failed : (count j : ℕ) → IsFailed count j → OnlyOpened G n m mode load old new hears held held' faults faults' (status.DiskFault j) ⊎ HasRun G n m mode load old new hears held held' faults faults' (status.DiskFault j) → Told (status.DiskFault j)
+  says_failed : (count j : ℕ) → IsFailed count j → OnlyOpened G n m mode load with_sink (status.DiskFault j) ⊎ HasRun G n m mode load with_sink (status.DiskFault j) → Told (status.DiskFault j)
   says_failed count j failed tells =
       let (d, e, was, is, broke) = failed.here in
       let same : (i : ℕ) → status.DiskFault j ≡ status.DiskFault i → j ≡ i = λ i f. cc in
@@ -226,7 +232,7 @@ module _ {D : Type 0} (G : Ghosts D) (only_now : OnlyNow G) (n m : ℕ) (mode : 
         rest = rest;
       }
 
-  only_failed : (j : ℕ) → IsFailed (calls_before_writes (slice_index sizes j)) j → EachUsed (AtMostRead G) old new n → WroteFront wrote (Rose faults faults') (fault_text (status.DiskFault j)) → Told (status.DiskFault j)
+  only_failed : (j : ℕ) → IsFailed (calls_before_writes (slice_index sizes j)) j → EachUsed (AtMostRead G) old new n → WroteFront wrote sink_rose (fault_text (status.DiskFault j)) → Told (status.DiskFault j)
   only_failed j failed only line =
       let (d, e, was, is, broke) = failed.here in
       let few = few_made G (calls_before_writes (slice_index sizes j)) d e broke in
@@ -369,7 +375,7 @@ module _ {D : Type 0} (G : Ghosts D) (only_now : OnlyNow G) (n m : ℕ) (mode : 
           subst (λ (xs : List ℕ). IsRefusedOn text xs log fault) (sizes_are t) on,
         )
 
-    says_bad : WroteFront wrote (Rose faults faults') (fault_text (status.BadLog fault)) → Told (status.BadLog fault)
+    says_bad : WroteFront wrote sink_rose (fault_text (status.BadLog fault)) → Told (status.BadLog fault)
     unfolding read_barred
     says_bad line =
         let same : (other : LogFault) → status.BadLog fault ≡ status.BadLog other → fault ≡ other = λ other e. cc in
@@ -398,20 +404,20 @@ module _ {D : Type 0} (G : Ghosts D) (only_now : OnlyNow G) (n m : ℕ) (mode : 
 
   silent_memory : (r : ScanRefusal) → RefusesRun G f n text old new r → wrote [] → Told status.NoMemory
   silent_memory refusal.NoMemory (inl only) silent = only_memory (most_barred only) silent
-  silent_memory refusal.NoMemory (inr (k, le, s)) silent = says_memory (inr (touched.memory_told only_now n m mode load some room workers sound old new there s.sizes s.starts s.begun (some_touched k s) hears held held' faults faults' silent))
+  silent_memory refusal.NoMemory (inr (k, le, s)) silent = says_memory (inr (touched.memory_told only_now n m mode load some room workers sound old new there s.sizes s.starts s.begun (some_touched k s) o silent))
   silent_memory (refusal.Failed j) (inl (stop, only)) silent = only_memory (most_barred only) silent
-  silent_memory (refusal.Failed j) (inr s) silent = says_memory (inr (touched.memory_told only_now n m mode load some room workers sound old new there s.sizes s.starts s.begun (stops_touched j s) hears held held' faults faults' silent))
+  silent_memory (refusal.Failed j) (inr s) silent = says_memory (inr (touched.memory_told only_now n m mode load some room workers sound old new there s.sizes s.starts s.begun (stops_touched j s) o silent))
   silent_memory (refusal.Bad fault) refuses silent = only_memory (read_barred fault refuses) silent
 
-  told_so : (r : ScanRefusal) → RefusesRun G f n text old new r → WroteFront wrote (Rose faults faults') (fault_text (status_at r)) → Told (status_at r)
-  told_so refusal.NoMemory refuses line = silent_memory refusal.NoMemory refuses (nothing_told wrote (Rose faults faults') line)
+  told_so : (r : ScanRefusal) → RefusesRun G f n text old new r → WroteFront wrote sink_rose (fault_text (status_at r)) → Told (status_at r)
+  told_so refusal.NoMemory refuses line = silent_memory refusal.NoMemory refuses (nothing_told wrote sink_rose line)
   told_so (refusal.Failed j) (inl (stop, only)) line = only_failed j (stops_reading j stop) only line
   told_so (refusal.Failed j) (inr s) line =
       let starting = stops_starting j s in
       says_failed (opening_calls sizes j) j starting.failed
-      (inr (touched.failed_told only_now n m mode load some room workers sound old new there s.sizes s.starts s.begun (stops_touched j s) hears held held' faults faults' j starting.made line))
+      (inr (touched.failed_told only_now n m mode load some room workers sound old new there s.sizes s.starts s.begun (stops_touched j s) o j starting.made line))
   told_so (refusal.Bad fault) refuses line = says_bad fault refuses line
 
-  pub says_refused : (r : ScanRefusal) → RefusesRun G f n text old new r → (answer : Status) → TellsFault wrote (Rose faults faults') (status_at r) answer → Told answer
+  pub says_refused : (r : ScanRefusal) → RefusesRun G f n text old new r → (answer : Status) → TellsFault wrote sink_rose (status_at r) answer → Told answer
   says_refused r refuses answer (inr none) = subst (λ (a : Status). Told a) (sym none.0) (silent_memory r refuses none.1)
   says_refused r refuses answer (inl told) = subst (λ (a : Status). Told a) (sym told.0) (told_so r refuses told.1)

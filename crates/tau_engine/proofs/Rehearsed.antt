@@ -34,14 +34,13 @@ use Rattle.tau_run.specs.RunFacts.{by_turns, chosen_by, IsCoreRun}
 use Rattle.tau_run.proofs.Came as of
 use Rattle.tau_run.proofs.Came.{came_by}
 use Rattle.tau_run.specs.Turns.{Progress}
-use Rattle.tau_run.proofs.Fresh.{fresh_begins}
 use Rattle.tau_run.proofs.Imaged.{imaged, acknowledged}
 use Rattle.tau_run.proofs.Results.{history_law}
 use Rattle.tau_run.specs.Gives.{CameTo, came_far, Concluded}
 use Rattle.tau_run.specs.Heard.{Heard}
 use Rattle.tau_engine.specs.Bench.{IsMeasured, PlaysWell}
 use Rattle.tau_step.specs.Counts.{AreCounted, AreHalved, counting}
-use Rattle.tau_engine.specs.Drill.{IsPlay, IsRehearsed, PlaysOn}
+use Rattle.tau_engine.specs.Drill.{IsPlay, IsRehearsed, PlaysOn, outside_of_drill}
 use Rattle.tau_engine.specs.Played.{ArePlayed}
 use Rattle.tau_engine.specs.DiskFacts.{Now, AreUnborn}
 use Rattle.tau_commands.specs.Outside.{Wrote}
@@ -76,7 +75,7 @@ module _ {D : Type 0} {G : Ghosts D} (only_now : OnlyNow G) (n m : ℕ) (load : 
   over = subst (λ (k : ℕ). IsOver k s) load_is.streams h.over
 
   pub complete : ((j : ℕ) → j < n → (s.streams j).stop ≡ None) → AllAcked load run
-  complete = of.complete (chosen_by load.turns n m load) n m Values load (fresh_start n) (fresh_begins (format_of Values) n load) sound l load_is ws after h.acks t over h.kept
+  complete = of.complete (to.begun_on only_now n m Values load sound l load_is ws after h.acks t) t over h.kept
 
   pub lowest : NamesLowest n (stops_in s) end.disk
   lowest = subst (λ (k : ℕ). NamesLowest k (stops_in s) end.disk) load_is.streams h.disk
@@ -222,8 +221,7 @@ module _ {D : Type 0} (G : Ghosts D) (only_now : OnlyNow G) (counts_now : (d : D
   pub rehearsed_none : (j : ℕ) → j < n → IsFirstStopped G.tells G.number G.fails G.short old new j → (k : ℕ) → k ≤ calls_to_open → Made G.number G.short old new j k → Refuses G n (catalogue_of load) old new (Failed j) → IsPlay G n m load old new (Wrote hears held held)
   rehearsed_none j lt stopped k few made refused =
       let told =
-      told_of_failed n m Values load some room refl workers (record { short = sound.short; bytes = sound.bytes; read = sound.read }) j (Unit {0}) (Now G.tells G.may_leave old new) (Now G.tells G.may_leave old new) (RoseAt G.faults old new) ⊥
-      (λ i c. Made G.number G.short old new i c) (λ text. Unit {0}) (λ i. [])
+      told_of_failed n m Values load some room refl workers (record { short = sound.short; bytes = sound.bytes; read = sound.read }) j (outside_of_drill G n old new) refl
       (λ u i x low now. begun_left G only_now n (catalogue_of load) old new (λ a d below was. (let b = begins a d below was in (b.0, b.1, b.2))) unborn i x low (past_now i x low now))
       (inr (refl, refl, (k, few, made), inl tt)) in
       record {

@@ -25,10 +25,10 @@ use Rattle.tau_commands.specs.declared.status.Status.TheVariants as status
 use Rattle.tau_engine.specs.DiskFacts.{NextClean, NotEarlier}
 use Rattle.tau_commands.specs.Fault.{fault_text, is_refusal}
 use Rattle.tau_engine.specs.Opening.{EmptyAreUnborn, HasBarrier, IsUnwritten, opening_calls}
-use Rattle.tau_commands.specs.Outside.{FailsTold, Wrote, ends_text, ends_recovery, is_before_disks}
+use Rattle.tau_commands.specs.Outside.{FailsTold, Output, Wrote, ends_text, ends_recovery, is_before_disks}
 use Rattle.tau_commands.specs.Recovery.{EndsAsBad, EndsTangled, IsTangle, IsUnfit, images_of}
 use Rattle.tau_engine.proofs.Streams.{OnlyNow}
-use Rattle.tau_engine.specs.RunSays.{EndsRun, EndsUnwritten, HasRun, IsRunRefused, MayEnd, OnlyOpened, RunSays}
+use Rattle.tau_engine.specs.RunSays.{DisksAndSink, EndsRun, EndsUnwritten, HasRun, IsRunRefused, MayEnd, OnlyOpened, RunSays}
 
 -- a run ends in one of the ways in which a recovery does
 pub may_end : (s : Status) → MayEnd s → ends_recovery s ≡ true
@@ -99,7 +99,10 @@ abbrev moment_of : {D : Type 0} → (D → ℕ) → Option D → ℕ
 moment_of moment None = 0
 moment_of moment (Some d) = moment d
 
-module _ {D : Type 0} (G : Ghosts D) (only_now : OnlyNow G) (n m : ℕ) (mode : LogMode) (load : Workload) (old : List D) (hears : Type 0) (held held' : List ℕ) (faults faults' : ℕ) where
+module _ {D : Type 0} (G : Ghosts D) (only_now : OnlyNow G) (n m : ℕ) (mode : LogMode) (load : Workload) (old : List D) (o : Output) where
+  abbrev as_they_were : DisksAndSink D
+  as_they_were = record { old = old; new = old; sink = o }
+
   -- a disk that was left alone has its barrier if it has no byte
   still : (d : D) → HasBarrier G d d → IsUnwritten G (G.moment d) d d
   still d has = record {
@@ -115,7 +118,7 @@ module _ {D : Type 0} (G : Ghosts D) (only_now : OnlyNow G) (n m : ℕ) (mode : 
   still_at j d was has = subst (λ (b : ℕ). IsUnwritten G b d d) (sym (ap (λ (e : Option D). moment_of G.moment e) was)) (still d has)
 
   -- memory ran out before the disks were asked
-  out_of_memory : Wrote hears held held' [] → RunSays G n m mode load old old hears held held' faults faults' status.NoMemory
+  out_of_memory : Wrote o.hears o.held o.held' [] → RunSays G n m mode load as_they_were status.NoMemory
   out_of_memory silent = record {
     tells = inl (record {
       ends = silent;
@@ -135,12 +138,12 @@ module _ {D : Type 0} (G : Ghosts D) (only_now : OnlyNow G) (n m : ℕ) (mode : 
     rest = refl;
   }
 
-  pub untouched : (answer : Status) → answer ≡ status.NoMemory → (answer ≡ status.NoMemory → Wrote hears held held' []) → RunSays G n m mode load old old hears held held' faults faults' answer
-  untouched answer is silent = subst (λ (s : Status). RunSays G n m mode load old old hears held held' faults faults' s) (sym is) (out_of_memory (silent is))
+  pub untouched : (answer : Status) → answer ≡ status.NoMemory → (answer ≡ status.NoMemory → Wrote o.hears o.held o.held' []) → RunSays G n m mode load as_they_were answer
+  untouched answer is silent = subst (λ (s : Status). RunSays G n m mode load as_they_were s) (sym is) (out_of_memory (silent is))
 
 -- ---- what was said
 
-module _ {D : Type 0} (G : Ghosts D) (n m : ℕ) (mode : LogMode) (load : Workload) (old new : List D) (hears : Type 0) (held held' : List ℕ) (faults faults' : ℕ) (answer : Status) (says : RunSays G n m mode load old new hears held held' faults faults' answer) where
+module _ {D : Type 0} {G : Ghosts D} {n m : ℕ} {mode : LogMode} {load : Workload} {w : DisksAndSink D} {answer : Status} (says : RunSays G n m mode load w answer) where
   abbrev f : Format
   f = format_of mode
 
@@ -148,18 +151,22 @@ module _ {D : Type 0} (G : Ghosts D) (n m : ℕ) (mode : LogMode) (load : Worklo
   text = declarations_text load.declarations
 
   abbrev images : List (List ℕ)
-  images = images_of G.seen old n
+  images = images_of G.seen w.old n
 
   abbrev Unwritten : Status → Type 0
-  Unwritten s = EndsUnwritten G n m mode load old new hears held held' faults faults' answer s
+  Unwritten s = EndsUnwritten G n m mode load w answer s
+
+  -- the line of a refusal was written, or a first part of it if the sink failed
+  abbrev LineTold : Type 0
+  LineTold = WroteFront (Wrote w.sink.hears w.sink.held w.sink.held') (Rose w.sink.faults w.sink.faults') (fault_text answer)
 
   -- the log on which the run went on
-  has_log : (run : HasRun G n m mode load old new hears held held' faults faults' answer) → G.tells → log_of (Some f) images ≡ Ok run.start.log
+  has_log : (run : HasRun G n m mode load w answer) → G.tells → log_of (Some f) images ≡ Ok run.start.log
   has_log run tells = log_there f images run.start.old run.start.log (run.contents tells) run.begins.reads
 
   -- ---- a refusal
 
-  line_of : (s : Status) → Unwritten s → is_refusal s ≡ true → WroteFront (Wrote hears held held') (Rose faults faults') (fault_text answer)
+  line_of : (s : Status) → Unwritten s → is_refusal s ≡ true → LineTold
   line_of (status.BadLog fault) ends e = ends
   line_of status.NoMemory ends e = absurd (cc e)
   line_of (status.DiskFault j) ends e = absurd (cc e)
@@ -185,17 +192,17 @@ module _ {D : Type 0} (G : Ghosts D) (n m : ℕ) (mode : LogMode) (load : Worklo
   runs_well (status.BadFeed at) ends e = ends
   runs_well (status.BadReport number) ends e = ends
 
-  pub refusal_line : is_refusal answer ≡ true → WroteFront (Wrote hears held held') (Rose faults faults') (fault_text answer)
+  pub refusal_line : is_refusal answer ≡ true → LineTold
   refusal_line e = by says.tells
     where
-      by : OnlyOpened G n m mode load old new hears held held' faults faults' answer ⊎ HasRun G n m mode load old new hears held held' faults faults' answer → WroteFront (Wrote hears held held') (Rose faults faults') (fault_text answer)
+      by : OnlyOpened G n m mode load w answer ⊎ HasRun G n m mode load w answer → LineTold
       by (inl only) = line_of answer only.ends e
       by (inr run) = absurd (runs_well answer run.ends e)
 
-  pub refusal_synced : (fault : LogFault) → answer ≡ status.BadLog fault → EachUsed (OnlySynced G) old new n
+  pub refusal_synced : (fault : LogFault) → answer ≡ status.BadLog fault → EachUsed (OnlySynced G) w.old w.new n
   refusal_synced fault e = by says.tells
     where
-      by : OnlyOpened G n m mode load old new hears held held' faults faults' answer ⊎ HasRun G n m mode load old new hears held held' faults faults' answer → EachUsed (OnlySynced G) old new n
+      by : OnlyOpened G n m mode load w answer ⊎ HasRun G n m mode load w answer → EachUsed (OnlySynced G) w.old w.new n
       by (inl only) = only.only
       by (inr run) = absurd (subst EndsRun e run.ends)
 
@@ -205,15 +212,15 @@ module _ {D : Type 0} (G : Ghosts D) (n m : ℕ) (mode : LogMode) (load : Worklo
   calls_are j = omega arith
 
   -- its call was one of those that open its stream, or a later one
-  pub opening_told : (j : ℕ) → answer ≡ status.DiskFault j → G.tells → FailsTold (opening_calls (map length images) j) (Made G.number G.short old new j) (WroteFront (Wrote hears held held') (Rose faults faults') (fault_text answer))
+  pub opening_told : (j : ℕ) → answer ≡ status.DiskFault j → G.tells → FailsTold (opening_calls (map length images) j) (Made G.number G.short w.old w.new j) LineTold
   opening_told j e tells = by says.tells
     where
-      unwritten : (s : Status) → answer ≡ s → Unwritten s → s ≡ status.DiskFault j → FailsTold (opening_calls (map length images) j) (Made G.number G.short old new j) (WroteFront (Wrote hears held held') (Rose faults faults') (fault_text answer))
+      unwritten : (s : Status) → answer ≡ s → Unwritten s → s ≡ status.DiskFault j → FailsTold (opening_calls (map length images) j) (Made G.number G.short w.old w.new j) LineTold
       unwritten (status.DiskFault i) is ends f =
           let same : i ≡ j = cc in
           let (k, le, made) = ends.0 tells in
           let few = calls_are i in
-          subst (λ (x : ℕ). FailsTold (opening_calls (map length images) x) (Made G.number G.short old new x) (WroteFront (Wrote hears held held') (Rose faults faults') (fault_text answer))) same (inl (k, omega (arith, le, few), made, ends.1))
+          subst (λ (x : ℕ). FailsTold (opening_calls (map length images) x) (Made G.number G.short w.old w.new x) LineTold) same (inl (k, omega (arith, le, few), made, ends.1))
       unwritten status.NoMemory is ends f = absurd (cc f)
       unwritten (status.BadLog fault) is ends f = absurd (cc f)
       unwritten status.Ok is ends f = absurd ends
@@ -226,7 +233,7 @@ module _ {D : Type 0} (G : Ghosts D) (n m : ℕ) (mode : LogMode) (load : Worklo
       unwritten (status.BadReport number) is ends f = absurd ends
 
       -- none of the calls that open its stream was to fail
-      after : EachIn (λ i. i < n) (λ i. NextClean G.tells G.number G.fails (opening_calls (map length images) i)) old new → (k : ℕ) × (opening_calls (map length images) j < k) × Made G.number G.short old new j k
+      after : EachIn (λ i. i < n) (λ i. NextClean G.tells G.number G.fails (opening_calls (map length images) i)) w.old w.new → (k : ℕ) × (opening_calls (map length images) j < k) × Made G.number G.short w.old w.new j k
       after clean =
           let (d, d', was, is, stop) = (says.stopped j e tells).0 in
           let (f, at, next) = clean j d (says.disk j e).0 was in
@@ -238,7 +245,7 @@ module _ {D : Type 0} (G : Ghosts D) (n m : ℕ) (mode : LogMode) (load : Worklo
             ]
           ]
 
-      by : OnlyOpened G n m mode load old new hears held held' faults faults' answer ⊎ HasRun G n m mode load old new hears held held' faults faults' answer → FailsTold (opening_calls (map length images) j) (Made G.number G.short old new j) (WroteFront (Wrote hears held held') (Rose faults faults') (fault_text answer))
+      by : OnlyOpened G n m mode load w answer ⊎ HasRun G n m mode load w answer → FailsTold (opening_calls (map length images) j) (Made G.number G.short w.old w.new j) LineTold
       by (inl only) = unwritten answer refl only.ends e
       by (inr run) = elim (run.fails j e) [
         | inl starting ↦ (let (k, late, le, made) = starting.0 in inl (k, le, made tells, starting.1))
@@ -247,10 +254,10 @@ module _ {D : Type 0} (G : Ghosts D) (n m : ℕ) (mode : LogMode) (load : Worklo
 
   -- ---- moments
 
-  pub not_earlier : EmptyAreUnborn G old n → EachUsed (NotEarlier G.tells G.moment) old new n
+  pub not_earlier : EmptyAreUnborn G w.old n → EachUsed (NotEarlier G.tells G.moment) w.old w.new n
   not_earlier unborn = by says.tells
     where
-      by : OnlyOpened G n m mode load old new hears held held' faults faults' answer ⊎ HasRun G n m mode load old new hears held held' faults faults' answer → EachUsed (NotEarlier G.tells G.moment) old new n
+      by : OnlyOpened G n m mode load w answer ⊎ HasRun G n m mode load w answer → EachUsed (NotEarlier G.tells G.moment) w.old w.new n
       by (inl only) j d lt was = let (e, is, synced) = only.only j d lt was in (e, is, λ t. synced.moments.later)
       by (inr run) j d lt was =
           let (e, is, has) = run.barriers unborn j d lt was in
@@ -279,7 +286,7 @@ module _ {D : Type 0} (G : Ghosts D) (n m : ℕ) (mode : LogMode) (load : Worklo
         begun log reads fits (inl bad) = no_log f images fault log bad reads
         begun log reads fits (inr (log', reads', found)) = no_fault f images text log fault (subst (λ (l : Log). begins_fault text (map length images) l ≡ Some fault) (same_log f images log' log reads' reads) found) fits
 
-        by : OnlyOpened G n m mode load old new hears held held' faults faults' answer ⊎ HasRun G n m mode load old new hears held held' faults faults' answer → EndsAsBad fault answer
+        by : OnlyOpened G n m mode load w answer ⊎ HasRun G n m mode load w answer → EndsAsBad fault answer
         by (inl only) = unwritten answer refl only.ends
         by (inr run) = absurd (begun run.start.log (has_log run tells) (run.fits tells) is)
 
@@ -299,7 +306,7 @@ module _ {D : Type 0} (G : Ghosts D) (n m : ℕ) (mode : LogMode) (load : Worklo
         unwritten (status.BadFeed at) e ends = absurd ends
         unwritten (status.BadReport number) e ends = absurd ends
 
-        by : OnlyOpened G n m mode load old new hears held held' faults faults' answer ⊎ HasRun G n m mode load old new hears held held' faults faults' answer → EndsTangled log answer
+        by : OnlyOpened G n m mode load w answer ⊎ HasRun G n m mode load w answer → EndsTangled log answer
         by (inl only) = unwritten answer refl only.ends
         by (inr run) =
             let (order, is, redoes) = run.begins.redone in

@@ -111,7 +111,7 @@ module _ {D : Type 0} (G : Ghosts D) (M : Ghosts MemDisk) (s : Input) (o : Outpu
   of_nothing : OnlyNow G → (old : List D) (c : Option Command) → wrote o status.NoMemory [] → Of G M s o old old status.NoMemory c
   of_nothing only_now old None silent = tt
   of_nothing only_now old (Some (Run n m mode optimistic)) silent = record {
-    run = λ t load has behind. of.untouched G only_now n m mode load old o.hears o.held o.held' o.faults o.faults' status.NoMemory refl (λ e. silent);
+    run = λ t load has behind. of.untouched G only_now n m mode load old o status.NoMemory refl (λ e. silent);
     bad_log = λ fault e. absurd (cc e);
     unfit_told = λ t tells load fault has behind unfit. tt;
     stuck_told = λ t tells load log has behind reads fits none. tt;
@@ -568,7 +568,7 @@ module _ {D : Type 0} (G : Ghosts D) (M : Ghosts MemDisk) (s : Input) (o : Outpu
               calls = λ e. absurd (cc e);
             };
             of = record {
-              run = λ t load has behind. of.untouched G only_now n m mode load old o.hears o.held o.held' o.faults o.faults' a (only_memory a ended.0 behind) ended.1;
+              run = λ t load has behind. of.untouched G only_now n m mode load old o a (only_memory a ended.0 behind) ended.1;
               bad_log = λ fault e. absurd (other ends_text a (status.BadLog fault) ended.0 refl e);
               unfit_told = λ t tells' load fault has behind unfit. subst (λ (x : Status). EndsAsBad fault x) (sym (only_memory a ended.0 behind)) tt;
               stuck_told = λ t tells' load log has behind reads fits none. subst (λ (x : Status). EndsTangled log x) (sym (only_memory a ended.0 behind)) tt;
@@ -586,7 +586,7 @@ module _ {D : Type 0} (G : Ghosts D) (M : Ghosts MemDisk) (s : Input) (o : Outpu
 
     -- the workload was run, or refused for what the disks hold
     pub says_run : (old new : List D) (a : Status) (load : Workload) → (s.tells → HasWorkload s.left load) → (s.tells → s.left' ≡ []) → (s.tells → (k : ℕ) × (k ≤ MAX_WORKLOAD + 1) × (s.left' ≡ drop k s.left)) →
-        RunSays G n m mode load old new o.hears o.held o.held' o.faults o.faults' a → Says G M s o old new run a
+        RunSays G n m mode load (record { old = old; new = new; sink = o }) a → Says G M s o old new run a
     says_run old new a load has end source q =
         let kind = may_end a q.kind in record {
           causes = record {
@@ -606,7 +606,7 @@ module _ {D : Type 0} (G : Ghosts D) (M : Ghosts MemDisk) (s : Input) (o : Outpu
             source = source;
             source_end = λ t behind reads. end t;
             source_unread = λ t e. absurd (cc e);
-            refusal = λ e late. of.refusal_line G n m mode load old new o.hears o.held o.held' o.faults o.faults' a q e;
+            refusal = λ e late. of.refusal_line q e;
             disk_line = λ j e late. absurd (cc late);
             silent = λ e late. absurd (cc late);
             silent_text = λ e reads t none. absurd (none (load, has t));
@@ -621,18 +621,18 @@ module _ {D : Type 0} (G : Ghosts D) (M : Ghosts MemDisk) (s : Input) (o : Outpu
           of = record {
             run = λ t load' has' behind. at t load' has';
             bad_log = λ fault e tells. (load, has, q.bad_log fault e tells);
-            unfit_told = λ t tells load' fault has' behind unfit. of.bad_told G n m mode load' old new o.hears o.held o.held' o.faults o.faults' a (at t load' has') tells fault unfit;
-            stuck_told = λ t tells load' log has' behind reads fits none. of.tangled_told G n m mode load' old new o.hears o.held o.held' o.faults o.faults' a (at t load' has') tells log reads fits none;
-            refused = λ fault e. of.refusal_synced G n m mode load old new o.hears o.held o.held' o.faults o.faults' a q fault e;
+            unfit_told = λ t tells load' fault has' behind unfit. of.bad_told (at t load' has') tells fault unfit;
+            stuck_told = λ t tells load' log has' behind reads fits none. of.tangled_told (at t load' has') tells log reads fits none;
+            refused = λ fault e. of.refusal_synced q fault e;
             refused_calls = q.read_alone;
-            opening_fault = λ j e tells. of.opening_told G n m mode load old new o.hears o.held o.held' o.faults o.faults' a q j e tells;
+            opening_fault = λ j e tells. of.opening_told q j e tells;
             write_fault_late = q.opened;
-            moments = λ unborn. of.not_earlier G n m mode load old new o.hears o.held o.held' o.faults o.faults' a q unborn;
+            moments = λ unborn. of.not_earlier q unborn;
             done = λ t tells load' log order has' reads is fits none rose.
                 recovers_well a kind (λ e. rose.sink (q.sink e)) (λ j e. (let h = q.disk j e in rose.disks j h.0 h.1))
-                (of.not_bad G n m mode load' old new o.hears o.held o.held' o.faults o.faults' a (at t load' has') tells log order reads fits is);
+                (of.not_bad (at t load' has') tells log order reads fits is);
           };
         }
       where
-        at : s.tells → (load' : Workload) → HasWorkload s.left load' → RunSays G n m mode load' old new o.hears o.held o.held' o.faults o.faults' a
-        at t load' has' = subst (λ (l : Workload). RunSays G n m mode l old new o.hears o.held o.held' o.faults o.faults' a) (same_load s.left load load' (has t) has') q
+        at : s.tells → (load' : Workload) → HasWorkload s.left load' → RunSays G n m mode load' (record { old = old; new = new; sink = o }) a
+        at t load' has' = subst (λ (l : Workload). RunSays G n m mode l (record { old = old; new = new; sink = o }) a) (same_load s.left load load' (has t) has') q

@@ -43,7 +43,7 @@ module _ (o : Output) (answer : Status) where
 module _ {D : Type 0} (G : Ghosts D) (M : Ghosts MemDisk) (s : Input) (o : Output) (old new : List D) (answer : Status) where
   -- A run goes on from what its disks hold: it ended before they were written, or it is one run on that.
   pub record OfRun (n m : ℕ) (mode : LogMode) : Type 0 where
-    pub run : s.tells → (load : Workload) → HasWorkload s.left load → is_before_disks answer ≡ false → RunSays G n m mode load old new o.hears o.held o.held' o.faults o.faults' answer
+    pub run : s.tells → (load : Workload) → HasWorkload s.left load → is_before_disks answer ≡ false → RunSays G n m mode load (record { old = old; new = new; sink = o }) answer
     -- it is refused exactly if its workload can't go on from what the disks hold
     pub bad_log : (fault : LogFault) → answer ≡ status.BadLog fault → G.tells → (load : Workload) × (s.tells → HasWorkload s.left load) × IsRunRefused (format_of mode) (declarations_text load.declarations) (images_of G.seen old n) fault
     pub unfit_told : s.tells → G.tells → (load : Workload) (fault : LogFault) → HasWorkload s.left load → is_before_disks answer ≡ false → IsUnfit (format_of mode) (declarations_text load.declarations) (images_of G.seen old n) fault → EndsAsBad fault answer

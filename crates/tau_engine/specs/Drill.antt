@@ -29,6 +29,7 @@ use Rattle.tau_open.specs.Outside.{calls_to_open}
 use Rattle.tau_open.specs.Opening.{Refuses}
 use Rattle.tau_open.specs.declared.refusal.OpenRefusal.TheVariants.{Failed}
 use Rattle.tau_run.specs.Start.{fresh_start, catalogue_of}
+use Rattle.tau_run.specs.Outside.{Outside}
 use Rattle.tau_run.specs.RunFacts as ending
 use Rattle.tau_run.specs.Gives.{GaveNew}
 use Rattle.tau_run.specs.RunFacts.{RunFacts, IsCoreRunAt, by_turns, chosen_by, turns_of}
@@ -117,13 +118,28 @@ module _ {D : Type 0} (G : Ghosts D) where
   EndsAt n old new None = EachUsed (IsClean G.tells G.number G.fails) old new n
   EndsAt n old new (Some j) = (j < n) × IsFirstStopped G.tells G.number G.fails G.short old new j
 
+  -- what a drill knows of its run: on disks that held nothing, of what a stop now may leave; its sink has the lines of the
+  -- acknowledgements alone, and does not fail
+  abbrev pub outside_of_drill : ℕ → List D → List D → Outside
+  outside_of_drill n old new = record {
+    start = fresh_start n;
+    began_in_order = Unit {0};
+    may_have_left = Now G.tells G.may_leave old new;
+    may_leave = Now G.tells G.may_leave old new;
+    disk_rose = RoseAt G.faults old new;
+    sink_rose = ⊥;
+    opening_calls = λ j. calls_to_open;
+    had_calls = Made G.number G.short old new;
+    wrote = λ text. Unit {0};
+    fault_line = λ j. [];
+  }
+
   -- The run by turns of the workload on these disks, each image that a stop now may leave, and the lines of its
   -- acknowledgements.
   pub record IsRehearsed (n m : ℕ) (load : Workload) (old new : List D) (wrote : List ℕ → Type 0) : Type 0 where
     pub failed : Option ℕ
     pub ends : EndsAt n old new failed
-    pub facts : RunFacts (chosen_by load.turns n m load) n m Values load (fresh_start n) (Unit {0}) (Now G.tells G.may_leave old new) (Now G.tells G.may_leave old new) (RoseAt G.faults old new) ⊥
-        (λ j. calls_to_open) (λ j k. Made G.number G.short old new j k) (λ text. Unit {0}) (λ j. []) (ending_by failed)
+    pub facts : RunFacts (chosen_by load.turns n m load) n m Values load (outside_of_drill n old new) (ending_by failed)
     pub acked : wrote (ack_lines facts.run.acks)
 
   -- The disks are those of the calls of the run that was told, and of each that failed in it is told what it holds; or if a

@@ -17,6 +17,7 @@ use Rattle.tau_scan.specs.declared.log.Log.{Log}
 use Rattle.tau_scan.specs.Begins.{begins_fault}
 use Rattle.tau_scan.specs.Reading.{contents_of, log_of}
 use Rattle.tau_scan.specs.Sound.{IsSound}
+use Rattle.tau_run.specs.Outside.{Outside}
 use Rattle.tau_run.specs.RunFacts.{WroteFront, RunFacts}
 use Rattle.tau_run.specs.Start.{Start, IsStart, opened_at}
 use Rattle.tau_begin.specs.Barrier.{IsBarrier}
@@ -28,7 +29,7 @@ use Rattle.tau_commands.specs.declared.status.Status.TheVariants as status
 use Rattle.tau_engine.specs.DiskFacts.{DisksWorked, NextClean, Now, ending_of}
 use Rattle.tau_commands.specs.Fault.{fault_text}
 use Rattle.tau_engine.specs.Opening.{opening_calls, HasBarrier, IsUnwritten, SinceBarrier, EmptyAreUnborn}
-use Rattle.tau_commands.specs.Outside.{Wrote}
+use Rattle.tau_commands.specs.Outside.{Output, Wrote}
 use Rattle.tau_commands.specs.Recovery.{images_of}
 use Rattle.tau_engine.specs.Runs.{ran_by}
 
@@ -59,20 +60,41 @@ MayEnd (status.DiskFault j) = Unit {0}
 MayEnd (status.BadLog fault) = Unit {0}
 MayEnd _ = ⊥
 
-module _ {D : Type 0} (G : Ghosts D) (n m : ℕ) (mode : LogMode) (load : Workload) (old new : List D) (hears : Type 0) (held held' : List ℕ) (faults faults' : ℕ) (answer : Status) where
+-- The disks of a call and its sink, before it and after it.
+pub record DisksAndSink (D : Type 0) : Type 1 where
+  pub old : List D
+  pub new : List D
+  pub sink : Output
+
+-- what the call knows of a run on streams that held this, of whose disks these are the barriers
+abbrev pub outside_of : {D : Type 0} → Ghosts D → ℕ → Format → DisksAndSink D → Start → (ℕ → ℕ) → Outside
+outside_of G n f w start barrier = record {
+  start = start;
+  began_in_order = EmptyAreUnborn G w.old n × IsSound f start.old start.log start.base;
+  may_have_left = SinceBarrier G barrier w.old w.new;
+  may_leave = Now G.tells G.may_leave w.old w.new;
+  disk_rose = RoseAt G.faults w.old w.new;
+  sink_rose = Rose w.sink.faults w.sink.faults';
+  opening_calls = opening_calls (map length (images_of G.seen w.old n));
+  had_calls = λ j k. G.tells → Made G.number G.short w.old w.new j k;
+  wrote = Wrote w.sink.hears w.sink.held w.sink.held';
+  fault_line = λ j. fault_text (status.DiskFault j);
+}
+
+module _ {D : Type 0} (G : Ghosts D) (n m : ℕ) (mode : LogMode) (load : Workload) (w : DisksAndSink D) (answer : Status) where
   abbrev pub images : List (List ℕ)
-  images = images_of G.seen old n
+  images = images_of G.seen w.old n
 
   abbrev pub sizes : List ℕ
   sizes = map length images
 
   abbrev pub OneLine : Type 0
-  OneLine = WroteFront (Wrote hears held held') (Rose faults faults') (fault_text answer)
+  OneLine = WroteFront (Wrote w.sink.hears w.sink.held w.sink.held') (Rose w.sink.faults w.sink.faults') (fault_text answer)
 
   -- how a call ended that wrote nothing on its disks
   abbrev pub EndsUnwritten : Status → Type 0
-  EndsUnwritten status.NoMemory = Wrote hears held held' []
-  EndsUnwritten (status.DiskFault j) = (G.tells → (k : ℕ) × (k ≤ calls_before_writes (slice_index sizes j)) × Made G.number G.short old new j k) × OneLine
+  EndsUnwritten status.NoMemory = Wrote w.sink.hears w.sink.held w.sink.held' []
+  EndsUnwritten (status.DiskFault j) = (G.tells → (k : ℕ) × (k ≤ calls_before_writes (slice_index sizes j)) × Made G.number G.short w.old w.new j k) × OneLine
   EndsUnwritten (status.BadLog fault) = OneLine
   EndsUnwritten _ = ⊥
 
@@ -80,18 +102,18 @@ module _ {D : Type 0} (G : Ghosts D) (n m : ℕ) (mode : LogMode) (load : Worklo
   -- once all were read it is what they held. At a bad log all were read.
   pub record OnlyOpened : Type 0 where
     pub ends : EndsUnwritten answer
-    pub only : EachUsed (OnlySynced G) old new n
+    pub only : EachUsed (OnlySynced G) w.old w.new n
     pub barrier : ℕ → ℕ
-    pub barred : EachIn (λ j. j < n) (λ j d e. G.tells → HasBarrier G d e → IsUnwritten G (barrier j) d e) old new
-    pub read : (fault : LogFault) → answer ≡ status.BadLog fault → EachIn (λ j. j < n) (λ j d e. G.tells → IsUnwritten G (barrier j) d e) old new
+    pub barred : EachIn (λ j. j < n) (λ j d e. G.tells → HasBarrier G d e → IsUnwritten G (barrier j) d e) w.old w.new
+    pub read : (fault : LogFault) → answer ≡ status.BadLog fault → EachIn (λ j. j < n) (λ j d e. G.tells → IsUnwritten G (barrier j) d e) w.old w.new
 
   -- no call that opens a stream was to fail
   abbrev pub OpenedClean : Type 0
-  OpenedClean = EachIn (λ j. j < n) (λ j. NextClean G.tells G.number G.fails (opening_calls sizes j)) old new
+  OpenedClean = EachIn (λ j. j < n) (λ j. NextClean G.tells G.number G.fails (opening_calls sizes j)) w.old w.new
 
   -- the disk failed once all was read, by a call that starts its stream, and one line was written
   abbrev pub FailsStarting : ℕ → Type 0
-  FailsStarting j = ((k : ℕ) × (calls_before_writes (slice_index sizes j) < k) × (k ≤ opening_calls sizes j) × (G.tells → Made G.number G.short old new j k)) × OneLine
+  FailsStarting j = ((k : ℕ) × (calls_before_writes (slice_index sizes j) < k) × (k ≤ opening_calls sizes j) × (G.tells → Made G.number G.short w.old w.new j k)) × OneLine
 
   -- all was read, and this is one run on it
   pub record HasRun : Type 0 where
@@ -103,24 +125,23 @@ module _ {D : Type 0} (G : Ghosts D) (n m : ℕ) (mode : LogMode) (load : Worklo
     pub fits : G.tells → begins_fault (declarations_text load.declarations) sizes start.log ≡ None
     -- the barrier of each disk
     pub barrier : ℕ → ℕ
-    pub barriers : EmptyAreUnborn G old n → EachIn (λ j. j < n) (λ j d e. G.tells → IsBarrier G (barrier j) d e) old new
-    pub facts : RunFacts (ran_by load.turns n m load) n m mode load start (EmptyAreUnborn G old n × IsSound (format_of mode) start.old start.log start.base) (SinceBarrier G barrier old new) (Now G.tells G.may_leave old new) (RoseAt G.faults old new)
-        (Rose faults faults') (opening_calls sizes) (λ j k. G.tells → Made G.number G.short old new j k) (Wrote hears held held') (λ j. fault_text (status.DiskFault j)) (ending_of answer)
+    pub barriers : EmptyAreUnborn G w.old n → EachIn (λ j. j < n) (λ j d e. G.tells → IsBarrier G (barrier j) d e) w.old w.new
+    pub facts : RunFacts (ran_by load.turns n m load) n m mode load (outside_of G n (format_of mode) w start barrier) (ending_of answer)
     -- a disk that fails while the streams are opened comes before one that fails later
     pub fails : (j : ℕ) → answer ≡ status.DiskFault j → FailsStarting j ⊎ OpenedClean
     -- in threads, if the run went to its end and no disk failed, its anchors stand in their distance, also if the sink failed
-    pub spaced : load.turns ≡ None → DisksWorked n (RoseAt G.faults old new) answer → (j : ℕ) (x : List ℕ) → j < n → Now G.tells G.may_leave old new j x → HasSpacedOn (format_of mode) n j load start x
+    pub spaced : load.turns ≡ None → DisksWorked n (RoseAt G.faults w.old w.new) answer → (j : ℕ) (x : List ℕ) → j < n → Now G.tells G.may_leave w.old w.new j x → HasSpacedOn (format_of mode) n j load start x
 
   pub record RunSays : Type 0 where
     pub tells : OnlyOpened ⊎ HasRun
     pub kind : MayEnd answer
-    pub disk : (j : ℕ) → answer ≡ status.DiskFault j → (j < n) × RoseAt G.faults old new j
-    pub stopped : (j : ℕ) → answer ≡ status.DiskFault j → G.tells → IsFirstStopped G.tells G.number G.fails G.short old new j
-    pub clean : answer ≡ status.Ok → EachUsed (IsClean G.tells G.number G.fails) old new n
-    pub sink : answer ≡ status.WriteFault → Rose faults faults'
+    pub disk : (j : ℕ) → answer ≡ status.DiskFault j → (j < n) × RoseAt G.faults w.old w.new j
+    pub stopped : (j : ℕ) → answer ≡ status.DiskFault j → G.tells → IsFirstStopped G.tells G.number G.fails G.short w.old w.new j
+    pub clean : answer ≡ status.Ok → EachUsed (IsClean G.tells G.number G.fails) w.old w.new n
+    pub sink : answer ≡ status.WriteFault → Rose w.sink.faults w.sink.faults'
     -- a disk that fails while the streams are opened comes before a sink that fails
     pub opened : answer ≡ status.WriteFault → OpenedClean
     pub bad_log : (fault : LogFault) → answer ≡ status.BadLog fault → G.tells → IsRunRefused (format_of mode) (declarations_text load.declarations) images fault
     -- a disk that fails while it is read comes before a bad log
-    pub read_alone : (fault : LogFault) → answer ≡ status.BadLog fault → EachIn (λ j. j < n) (λ j. AllCalls G.tells G.number G.fails G.short (calls_before_writes (slice_index sizes j))) old new
-    pub rest : drop n new ≡ drop n old
+    pub read_alone : (fault : LogFault) → answer ≡ status.BadLog fault → EachIn (λ j. j < n) (λ j. AllCalls G.tells G.number G.fails G.short (calls_before_writes (slice_index sizes j))) w.old w.new
+    pub rest : drop n w.new ≡ drop n w.old

@@ -162,7 +162,7 @@ pub fn run<R: Threads + Wait + Sync, D: Disk + Send, K: Sink + Send, G: Gate + S
     requires meant { (text : List ℕ) × (workload_of text ≡ Ok load.now) }
 
     ensures count { vec_len disks.new ≡ vec_len disks.old }
-    ensures says { RunSays ⟦<D as Disk>⟧ choice.streams choice.workers choice.mode load.now disks.old.items disks.new.items K.tells (K.held sink.old) (K.held sink.new) (K.faults sink.old) (K.faults sink.new) result }
+    ensures says { RunSays ⟦<D as Disk>⟧ choice.streams choice.workers choice.mode load.now (record { old = disks.old.items; new = disks.new.items; sink = record { hears = K.tells; held = K.held sink.old; held' = K.held sink.new; faults = K.faults sink.old; faults' = K.faults sink.new } }) result }
 {
     let Ok(text) = print_declarations(alloc, &load.declarations) else {
         return Status::NoMemory;
