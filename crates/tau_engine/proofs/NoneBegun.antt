@@ -106,7 +106,7 @@ module _ (n m : ℕ) (mode : LogMode) (load : Workload) (start : Start) (rows : 
     core = core_at ending may;
     stopped = λ j k e. absurd (never_stopped k e);
     told = tells;
-    imaged = imaged n m mode load l [] opening run nothing.5 nothing.6 o.may_have_left o.may_leave o.disk_rose o.began_in_order
+    imaged = imaged n m mode load l [] opening run nothing.5 nothing.6 o.began_in_order o.may_have_left
         (subst (λ (b : Start). o.began_in_order → IsSound (format_of mode) b.old b.log b.base × ((j : ℕ) (x : List ℕ) → j < n → o.may_have_left j x → IsLeft n j (old_at b j) (opened_at load b j) l opening x)) (sym same_start)
         (λ u. ((left u).0, λ j x lt q. is_left j x ((left u).1 j x lt q))));
     acknowledged = λ images from log reads x q e. absurd (no_ack x.call.number e);

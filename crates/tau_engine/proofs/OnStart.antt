@@ -34,7 +34,7 @@ use Rattle.tau_run.specs.Outside.{Outside}
 use Rattle.tau_run.specs.RecoveredFacts.{IsEnded}
 use Rattle.tau_run.specs.Start.{Start, IsStart, old_at, opened_at}
 use Rattle.tau_run.specs.CoreRun.{IsCourse, IsLoadOn, IsRunOf, IsSoundLoad}
-use Rattle.tau_run.specs.StopsLeave.{HasSomeFront, IsLeft, Leaves, IsOver, NamesLowest, stops_in}
+use Rattle.tau_run.specs.StopsLeave.{HasSomeFront, IsLeft, IsOver, NamesLowest, stops_in}
 use Rattle.tau_run.specs.RunFacts.{Ending, IsCoreRun, IsCoreRunAt, RunTells, RunFacts}
 use Rattle.tau_run.specs.RunFacts as ending
 use Rattle.tau_run.specs.Turns.{Progress}
@@ -44,6 +44,7 @@ use Rattle.tau_run.specs.Heard.{Heard}
 use Rattle.tau_run.specs.Writers.{EachOf, Left}
 use Rattle.tau_run.proofs.Came as of
 use Rattle.tau_run.proofs.Came.{BeginsOn}
+use Rattle.tau_run.proofs.Imaged.{Leaves}
 use Rattle.tau_begin.specs.Barrier.{IsBarrier}
 use Rattle.tau_begin.specs.Opened.{IsTouched, IsOpenRun}
 use Rattle.tau_begin.proofs.Barrier.{barrier_of, put_on}
@@ -249,8 +250,8 @@ module _ {D : Type 0} {G : Ghosts D} (only_now : OnlyNow G) (n m : ℕ) (mode : 
     stop_low : (j at : ℕ) → stops j ≡ Some at → j < n
     stop_low j at e = subst (λ (k : ℕ). j < k) load_is.streams (t.stop_low j at e)
 
-    pub leaves_now : Leaves n (old_at start) (opened_at load start) l s (λ j x. ⊥) (Now G.tells G.may_leave old new) (RoseAt G.faults old new)
-    leaves_now = leaves G n way l s streams_are old new there all (old_at start) stop_low
+    pub leaves_now : Leaves n (opened_at load start) l s (Now G.tells G.may_leave old new) (RoseAt G.faults old new)
+    leaves_now = leaves G n way l s streams_are old new there all stop_low
 
     abbrev with_sink : Output → DisksAndSink D
     with_sink out = record { old = old; new = new; sink = o }

@@ -1,5 +1,5 @@
 -- What a run on streams that were just made has done, in the words of runs: by turns or in threads.
-use Rattle.std.proofs.Common.{ℕ, ◌<◌, ◌≤◌, ◌≡◌, Bool, List, [], ◌++◌, map, length, sym, subst, Option}
+use Rattle.std.proofs.Common.{ℕ, ◌<◌, ◌≤◌, ◌≡◌, Bool, List, ◌++◌, map, length, sym, subst, Option}
 use Rattle.std.specs.Prelude.{Some, None}
 use Rattle.tau_base.specs.declared.value.LogMode.{LogMode}
 use Rattle.tau_base.specs.Modes.{format_of}
@@ -15,17 +15,18 @@ use Rattle.tau_text.specs.declared.load.Workload.{Workload}
 use Rattle.tau_core.specs.declared.state.Load.{Load}
 use Rattle.tau_run.specs.Run.{Run, AllAcked}
 use Rattle.tau_run.specs.RecoveredFacts.{IsEnded}
-use Rattle.tau_run.specs.Start.{IsStart, fresh_start, catalogue_of, old_at, opened_at}
-use Rattle.tau_run.proofs.Fresh.{fresh_begins, fresh_is_sound, fresh_olds, fresh_opened}
+use Rattle.tau_run.specs.Start.{IsStart, fresh_start, catalogue_of, opened_at}
+use Rattle.tau_run.proofs.Fresh.{fresh_begins, fresh_is_sound, fresh_opened}
 use Rattle.tau_scan.specs.Sound.{IsSound}
 use Rattle.tau_run.specs.CoreRun.{IsCourse, IsLoadOn, IsRunOf, IsSoundLoad}
-use Rattle.tau_run.specs.StopsLeave.{Leaves, IsOver}
+use Rattle.tau_run.specs.StopsLeave.{IsOver}
 use Rattle.tau_run.specs.RunFacts.{chosen_by, IsCoreRun}
 use Rattle.tau_run.specs.Turns.{Progress}
 use Rattle.tau_run.specs.Gives.{CameTo, came_far}
 use Rattle.tau_run.specs.Writers.{EachOf, Left}
 use Rattle.tau_run.proofs.Came as of
 use Rattle.tau_run.proofs.Came.{BeginsOn}
+use Rattle.tau_run.proofs.Imaged.{Leaves}
 use Rattle.tau_engine.specs.DiskFacts.{Now}
 use Rattle.tau_engine.proofs.Streams.{OnlyNow, Way, fresh_way, Joined, joined, leaves}
 
@@ -80,14 +81,9 @@ module _ {D : Type 0} {G : Ghosts D} (only_now : OnlyNow G) (n m : ℕ) (mode : 
     pub all : EachIn (λ j. j < n) (Joined G n way l s) old new
     all = joined G n (catalogue_of load) l s old mid new ws ws' streams back writers
 
-    fresh_leaves : Leaves n (old_at (fresh_start n)) (opened_at load (fresh_start n)) l s (λ j x. ⊥) (Now G.tells G.may_leave old new) (RoseAt G.faults old new)
-    fresh_leaves =
-        subst (λ (a : ℕ → List ℕ). Leaves n a (opened_at load (fresh_start n)) l s (λ j x. ⊥) (Now G.tells G.may_leave old new) (RoseAt G.faults old new)) (sym (fresh_olds n))
-        (subst (λ (b : ℕ → List ℕ). Leaves n (λ j. []) b l s (λ j x. ⊥) (Now G.tells G.may_leave old new) (RoseAt G.faults old new)) (sym (fresh_opened n load))
-        (leaves G n way l s streams_are old new many all (λ j. []) stop_low))
-
-    pub at_leaves : Leaves n (old_at run.start) (opened_at load run.start) l s (λ j x. ⊥) (Now G.tells G.may_leave old new) (RoseAt G.faults old new)
-    at_leaves = fresh_leaves
+    pub at_leaves : Leaves n (opened_at load (fresh_start n)) l s (Now G.tells G.may_leave old new) (RoseAt G.faults old new)
+    at_leaves =
+        subst (λ (b : ℕ → List ℕ). Leaves n b l s (Now G.tells G.may_leave old new) (RoseAt G.faults old new)) (sym (fresh_opened n load)) (leaves G n way l s streams_are old new many all stop_low)
 
     pub has_ended : IsOver n s → (((j : ℕ) → j < n → stops j ≡ None) → AllAcked load run) → IsEnded n mode load (Now G.tells G.may_leave old new) (RoseAt G.faults old new) run
-    has_ended over complete = of.ended_of begun_on t (Now G.tells G.may_leave old new) (RoseAt G.faults old new) fresh_leaves over complete
+    has_ended over complete = of.ended_of begun_on t (Now G.tells G.may_leave old new) (RoseAt G.faults old new) at_leaves over complete

@@ -34,7 +34,7 @@ use Rattle.tau_run.specs.RunFacts.{by_turns, chosen_by, IsCoreRun}
 use Rattle.tau_run.proofs.Came as of
 use Rattle.tau_run.proofs.Came.{came_by}
 use Rattle.tau_run.specs.Turns.{Progress}
-use Rattle.tau_run.proofs.Imaged.{imaged, acknowledged}
+use Rattle.tau_run.proofs.Imaged.{Leaves, imaged, acknowledged}
 use Rattle.tau_run.proofs.Results.{history_law}
 use Rattle.tau_run.specs.Gives.{CameTo, came_far, Concluded}
 use Rattle.tau_run.specs.Heard.{Heard}
@@ -83,7 +83,7 @@ module _ {D : Type 0} {G : Ghosts D} (only_now : OnlyNow G) (n m : ℕ) (load : 
   abbrev core : IsCoreRun (chosen_by load.turns n m load true) n m Values load (λ j. (s.streams j).stop) run
   core = record { stands_on = l; load_is = load_is; opening = t.opening; first = t.first; progress = came_far t; led = t.led; chosen = also true t.opening (came_far t) h.whole; is = is; told = refl; stopped = λ j lt. refl }
 
-  at_leaves : Rattle.tau_run.specs.StopsLeave.Leaves n (old_at run.start) (opened_at load run.start) l s (λ j x. ⊥) (Now G.tells G.may_leave old new) (RoseAt G.faults old new)
+  at_leaves : Leaves n (opened_at load run.start) l s (Now G.tells G.may_leave old new) (RoseAt G.faults old new)
   at_leaves = to.at_leaves only_now n m Values load sound l load_is ws after h.acks t old mid new many streams back
 
   sound_start : IsSound (format_of Values) run.start.old run.start.log run.start.base
@@ -125,8 +125,8 @@ module _ {D : Type 0} {G : Ghosts D} (only_now : OnlyNow G) (n m : ℕ) (load : 
       core = core;
       stopped = at_leaves.stopped;
       told = (ended, going, complete going, (report_text load.declarations.tables end.report None, reports None, tt));
-      imaged = imaged n m Values load l t.joined s run course is (Now G.tells G.may_leave old new) (Now G.tells G.may_leave old new) (RoseAt G.faults old new) (Unit {0}) (λ u. (sound_start, λ j y lt q. left_now j y lt q));
-      acknowledged = acknowledged n m Values load l t.joined s run course is (λ j y. ⊥) (Now G.tells G.may_leave old new) (RoseAt G.faults old new) at_leaves;
+      imaged = imaged n m Values load l t.joined s run course is (Unit {0}) (Now G.tells G.may_leave old new) (λ u. (sound_start, λ j y lt q. left_now j y lt q));
+      acknowledged = acknowledged n m Values load l t.joined s run course is (Now G.tells G.may_leave old new) (RoseAt G.faults old new) at_leaves;
     };
     acked = told;
   }
@@ -157,8 +157,8 @@ module _ {D : Type 0} {G : Ghosts D} (only_now : OnlyNow G) (n m : ℕ) (load : 
               λ i lt. (let k = made_all G n (fresh_way G n (catalogue_of load)) l s streams_are old new many all i lt in (k.0, k.1, k.2 tells)),
               (report_text load.declarations.tables end.report (Some j), reports (Some j), tt),
             );
-            imaged = imaged n m Values load l t.joined s run course is (Now G.tells G.may_leave old new) (Now G.tells G.may_leave old new) (RoseAt G.faults old new) (Unit {0}) (λ u. (sound_start, λ i y lt w. left_now i y lt w));
-            acknowledged = acknowledged n m Values load l t.joined s run course is (λ i y. ⊥) (Now G.tells G.may_leave old new) (RoseAt G.faults old new) at_leaves;
+            imaged = imaged n m Values load l t.joined s run course is (Unit {0}) (Now G.tells G.may_leave old new) (λ u. (sound_start, λ i y lt w. left_now i y lt w));
+            acknowledged = acknowledged n m Values load l t.joined s run course is (Now G.tells G.may_leave old new) (RoseAt G.faults old new) at_leaves;
           };
           acked = told;
         };

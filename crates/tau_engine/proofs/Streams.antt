@@ -21,7 +21,8 @@ use Rattle.tau_disk.proofs.Calls.{went_on_further}
 use Rattle.tau_scan.proofs.Plans.{goes_on, goes_stopped}
 use Rattle.tau_machine.specs.State.{Core}
 use Rattle.tau_core.specs.declared.state.Load.{Load}
-use Rattle.tau_run.specs.StopsLeave.{HasFront, HasSomeFront, IsLeft, Leaves}
+use Rattle.tau_run.specs.StopsLeave.{HasFront, HasSomeFront, IsLeft}
+use Rattle.tau_run.proofs.Imaged.{Leaves}
 use Rattle.tau_engine.specs.DiskFacts.{Now, AreUnborn, NextClean}
 use Rattle.tau_base.proofs.Lists.{some_at, got_mapped}
 use Rattle.tau_base.proofs.Logic.{some_is}
@@ -166,9 +167,8 @@ module _ {D : Type 0} (G : Ghosts D) where
 
     -- ---- what a stop now may leave
 
-    pub leaves : (held : ℕ → List ℕ) → ((i at : ℕ) → (s.streams i).stop ≡ Some at → i < n) → Leaves n held way.first l s (λ j x. ⊥) (Now G.tells G.may_leave old new) (RoseAt G.faults old new)
-    leaves held low = record {
-      before = λ j x lt q. absurd q;
+    pub leaves : ((i at : ℕ) → (s.streams i).stop ≡ Some at → i < n) → Leaves n way.first l s (Now G.tells G.may_leave old new) (RoseAt G.faults old new)
+    leaves low = record {
       present = λ j x lt q.
           (let (d, e, was, is, (t, now)) = q in
           let h = at_end j lt d e was is in

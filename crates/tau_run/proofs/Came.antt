@@ -23,9 +23,9 @@ use Rattle.tau_run.specs.Gives.{CameTo, came_far, Concluded, CutOff, Gave}
 use Rattle.tau_run.specs.Outside.{Outside}
 use Rattle.tau_run.specs.RecoveredFacts.{IsEnded}
 use Rattle.tau_run.specs.RunFacts.{Ending, IsCoreRun, IsCoreRunAt, RunTells, RunFacts}
-use Rattle.tau_run.specs.StopsLeave.{IsLeft, IsOver, Leaves, stops_in}
+use Rattle.tau_run.specs.StopsLeave.{IsLeft, IsOver, stops_in}
 use Rattle.tau_run.specs.Turns.{Progress}
-use Rattle.tau_run.proofs.Imaged.{imaged, acknowledged, ended}
+use Rattle.tau_run.proofs.Imaged.{Leaves, imaged, acknowledged, ended}
 use Rattle.tau_run.proofs.Kept.{kept_acked}
 use Rattle.tau_run.proofs.Results.{history_law}
 use Rattle.tau_run.proofs.Waits.{waits_for}
@@ -124,7 +124,7 @@ module _ {D : Type 0} {G : Ghosts D} {by : Bool → Load → Core → Progress �
       (λ k low high. kept k low (let calls : length l.calls ≡ length load.calls = ap (length {A = Call}) on.load_is.calls in omega (arith, high, calls))) going
 
   -- what is known of it outside
-  pub facts_of : (o : Outside) → start ≡ o.start → Leaves n (old_at start) (opened_at load start) l t.state (λ j x. ⊥) o.may_leave o.disk_rose →
+  pub facts_of : (o : Outside) → start ≡ o.start → Leaves n (opened_at load start) l t.state o.may_leave o.disk_rose →
       (o.began_in_order → IsSound (format_of mode) start.old start.log start.base × ((j : ℕ) (x : List ℕ) → j < n → o.may_have_left j x → IsLeft n j (old_at start j) (opened_at load start j) l t.state x)) →
       (ending : Ending) → IsCoreRunAt by n m mode load (stops_in t.state) run_of ending → RunTells n mode load o (stops_in t.state) run_of ending → RunFacts by n m mode load o ending
   facts_of o begun leaves left ending core told = record {
@@ -135,10 +135,10 @@ module _ {D : Type 0} {G : Ghosts D} {by : Bool → Load → Core → Progress �
     core = core;
     stopped = leaves.stopped;
     told = told;
-    imaged = imaged n m mode load l t.joined t.state run_of course is_run o.may_have_left o.may_leave o.disk_rose o.began_in_order left;
-    acknowledged = acknowledged n m mode load l t.joined t.state run_of course is_run (λ j x. ⊥) o.may_leave o.disk_rose leaves;
+    imaged = imaged n m mode load l t.joined t.state run_of course is_run o.began_in_order o.may_have_left left;
+    acknowledged = acknowledged n m mode load l t.joined t.state run_of course is_run o.may_leave o.disk_rose leaves;
   }
 
-  pub ended_of : (now : ℕ → List ℕ → Type 0) (rose : ℕ → Type 0) → Leaves n (old_at start) (opened_at load start) l t.state (λ j x. ⊥) now rose → IsOver n t.state → (((j : ℕ) → j < n → stops_in t.state j ≡ None) → AllAcked load run_of) →
+  pub ended_of : (now : ℕ → List ℕ → Type 0) (rose : ℕ → Type 0) → Leaves n (opened_at load start) l t.state now rose → IsOver n t.state → (((j : ℕ) → j < n → stops_in t.state j ≡ None) → AllAcked load run_of) →
       IsEnded n mode load now rose run_of
-  ended_of now rose leaves over complete = ended n m mode load l t.joined t.state run_of course is_run (λ j x. ⊥) now rose leaves over complete
+  ended_of now rose leaves over complete = ended n m mode load l t.joined t.state run_of course is_run now rose leaves over complete

@@ -1,9 +1,10 @@
 -- What the laws say of what stops may leave, over whatever relations say it.
-use Rattle.std.proofs.Common.{ℕ, ◌+◌, ◌<◌, ◌≡◌, List, ◌++◌, length, refl, ap, subst, ◌∙◌, Option, arith}
-use Rattle.std.specs.Prelude.{Some, None, slice_get}
+use Rattle.std.proofs.Common.{ℕ, ◌+◌, ◌<◌, ◌≤◌, ◌≡◌, List, ◌++◌, length, refl, ap, subst, ◌∙◌, Option, arith}
+use Rattle.std.specs.Prelude.{Some, None, slice_get, slice_index}
 use Rattle.std.proofs.lemmas.List.{length-append}
 use Rattle.tau_base.specs.declared.value.LogMode.{LogMode}
 use Rattle.tau_base.specs.Modes.{format_of}
+use Rattle.tau_block.specs.Image.{HasContent}
 use Rattle.tau_model.specs.History.{Act}
 use Rattle.tau_machine.specs.Hands.{Txn}
 use Rattle.tau_machine.specs.State.{Core}
@@ -14,20 +15,27 @@ use Rattle.tau_run.specs.Start.{old_at, opened_at}
 use Rattle.tau_run.specs.Run.{Run, AllAcked}
 use Rattle.tau_run.specs.RecoveredFacts.{IsImaged, IsAcknowledged, IsEnded}
 use Rattle.tau_run.specs.CoreRun.{IsRunOf, IsCourse}
-use Rattle.tau_run.specs.StopsLeave.{IsLeft, Leaves, IsOver}
+use Rattle.tau_run.specs.StopsLeave.{HasFront, IsLeft, IsOver}
 use Rattle.tau_run.proofs.Durable.{durable_waits}
 use Rattle.tau_run.proofs.Each.{one_content}
 use Rattle.tau_run.proofs.Results.{contents_law, images_law, acked_law, ends_law}
 use Rattle.tau_base.proofs.Lists.{got_within}
 
-module _ (n m : ℕ) (mode : LogMode) (load : Workload) (l : Load) (K : List (Act Txn)) (s : Core) (run : Run) (c : IsCourse n m mode load run.start l K s) (is : IsRunOf n l K s load run)
-    (past now : ℕ → List ℕ → Type 0) (rose : ℕ → Type 0) where
+-- What a stop now may leave of streams that were opened with this. `rose` are the streams whose disk failed.
+pub record Leaves (n : ℕ) (first : ℕ → List ℕ) (l : Load) (s : Core) (now : ℕ → List ℕ → Type 0) (rose : ℕ → Type 0) : Type 0 where
+  -- whatever it leaves reaches what is persisted
+  pub present : (j : ℕ) (x : List ℕ) → j < n → now j x → (bytes : List ℕ) × HasFront n j (first j) l s bytes x × (slice_index s.plv j ≤ length (first j) + length bytes)
+  -- and it may leave no more than that
+  pub reached : (j : ℕ) (x : List ℕ) → j < n → now j x → (y content : List ℕ) × now j y × HasContent (format_of l.mode) n j content y × (length content ≡ slice_index s.plv j)
+  pub stopped : (j at : ℕ) → (s.streams j).stop ≡ Some at → rose j
+
+module _ (n m : ℕ) (mode : LogMode) (load : Workload) (l : Load) (K : List (Act Txn)) (s : Core) (run : Run) (c : IsCourse n m mode load run.start l K s) (is : IsRunOf n l K s load run) where
   within : (images : List (List ℕ)) (j : ℕ) (image : List ℕ) → length images ≡ n → slice_get images j ≡ Some image → j < n
   within images j image count e = subst (λ (k : ℕ). j < k) count (got_within images j image e)
 
-  pub imaged : (unborn : Type 0) → (unborn → IsSound (format_of mode) run.start.old run.start.log run.start.base × ((j : ℕ) (x : List ℕ) → j < n → past j x → IsLeft n j (old_at run.start j) (opened_at load run.start j) l s x)) →
-      IsImaged n mode load unborn past run
-  imaged unborn left =
+  pub imaged : (in_order : Type 0) (past : ℕ → List ℕ → Type 0) →
+      (in_order → IsSound (format_of mode) run.start.old run.start.log run.start.base × ((j : ℕ) (x : List ℕ) → j < n → past j x → IsLeft n j (old_at run.start j) (opened_at load run.start j) l s x)) → IsImaged n mode load in_order past run
+  imaged in_order past left =
       let w = contents_law n m mode load l K s run c is in record {
         opened = w.0;
         whole = w.1.0;
@@ -36,7 +44,7 @@ module _ (n m : ℕ) (mode : LogMode) (load : Workload) (l : Load) (K : List (Ac
         each = λ u images from. images_law n m mode load l K s run c is (left u).0 images from.0 (λ j image e. (left u).1 j image (within images j image from.0 e) (from.1 j image e));
       }
 
-  module _ (leaves : Leaves n (old_at run.start) (opened_at load run.start) l s past now rose) where
+  module _ (now : ℕ → List ℕ → Type 0) (rose : ℕ → Type 0) (leaves : Leaves n (opened_at load run.start) l s now rose) where
     pub acknowledged : IsAcknowledged n load now run
     acknowledged images from log reads x q e =
         acked_law n m mode load l K s run c is images from.0 (λ j image f. leaves.present j image (within images j image from.0 f) (from.1 j image f)) log reads x q e

@@ -175,10 +175,6 @@ module _ (set : Setting) (m n : ℕ) where
   abbrev pub Leaves : Style → List Todo → List Todo → RunState → RunState → Type 0
   Leaves style todos left x y = (later rest : List Todo) (z : RunState) → Steps style (left ++ later) y rest z → Steps style (todos ++ later) x rest z
 
-  -- these things were done
-  abbrev pub Did : Style → List Todo → RunState → RunState → Type 0
-  Did style todos x y = Leaves style todos [] x y
-
   -- a part of them, or all
   abbrev pub Began : Style → List Todo → RunState → RunState → Type 0
   Began style todos x y = (later : List Todo) → (rest : List Todo) × Steps style (todos ++ later) x rest y

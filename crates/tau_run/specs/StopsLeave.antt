@@ -1,5 +1,5 @@
 -- What a run leaves of its streams, apart from the types of its disks.
-use Rattle.std.specs.Prelude.{ℕ, ◌+◌, ◌<◌, ◌≤◌, ◌≡◌, ◌⊎◌, Option, Some, None, List, [], ◌++◌, length, take, slice_index}
+use Rattle.std.specs.Prelude.{ℕ, ◌<◌, ◌≡◌, ◌⊎◌, Option, Some, None, List, [], ◌++◌, take, slice_index}
 use Rattle.std.specs.List.{filter}
 use Rattle.tau_base.specs.Modes.{format_of}
 use Rattle.tau_base.specs.Vectors.{covers}
@@ -21,16 +21,6 @@ HasSomeFront n j first l s image = (bytes : List ℕ) × HasFront n j first l s 
 -- the image has what was there, or such a front
 abbrev pub IsLeft : ℕ → ℕ → List ℕ → List ℕ → Load → Core → List ℕ → Type 0
 IsLeft n j old first l s image = HasContent (format_of l.mode) n j old image ⊎ HasSomeFront n j first l s image
-
--- What stops may leave, where each stream was opened from the old content to the first one: `past` at some moment since the
--- entry, `now` now. `rose` are the streams whose disk failed.
-pub record Leaves (n : ℕ) (old first : ℕ → List ℕ) (l : Load) (s : Core) (past now : ℕ → List ℕ → Type 0) (rose : ℕ → Type 0) : Type 0 where
-  pub before : (j : ℕ) (x : List ℕ) → j < n → past j x → IsLeft n j (old j) (first j) l s x
-  -- whatever a stop now leaves reaches what is persisted
-  pub present : (j : ℕ) (x : List ℕ) → j < n → now j x → (bytes : List ℕ) × HasFront n j (first j) l s bytes x × (slice_index s.plv j ≤ length (first j) + length bytes)
-  -- and it may leave no more than that
-  pub reached : (j : ℕ) (x : List ℕ) → j < n → now j x → (y content : List ℕ) × now j y × HasContent (format_of l.mode) n j content y × (length content ≡ slice_index s.plv j)
-  pub stopped : (j at : ℕ) → (s.streams j).stop ≡ Some at → rose j
 
 -- At the end of a run: no call is in hand; what was placed in a stream is persisted, unless its disk failed; what is
 -- persisted is acknowledged; and where no disk failed no call is left.

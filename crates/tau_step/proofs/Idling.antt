@@ -7,7 +7,8 @@ use Rattle.tau_machine.specs.State.{Setting, Core, Stream}
 use Rattle.tau_machine.specs.Events.{Gathered, stop, record_first, anchor_first}
 use Rattle.tau_machine.proofs.At.{at_same, at_other}
 use Rattle.tau_occ.specs.declared.style.Style.{Style}
-use Rattle.tau_run.specs.Schedule.{Drain, Drained, Did, Leaves, Steps, peeked, on}
+use Rattle.tau_run.specs.Schedule.{Drain, Drained, Leaves, Steps, peeked, on}
+use Rattle.tau_run.proofs.Steps.{Did}
 use Rattle.tau_step.specs.Optimists.{Peeks}
 use Rattle.tau_step.proofs.ToSteps.{drains, drains_on, drain_failed, drain_idle, drain_on}
 use Rattle.tau_run.specs.Turns.{Progress, IfSo, Gathers, Flushed, is_going}

@@ -14,8 +14,8 @@ use Rattle.tau_core.specs.View.{setting_of}
 use Rattle.tau_run.specs.Turns.{Progress, Stays, Goes, is_raised, is_empty, any_left}
 use Rattle.tau_step.specs.TurnParts.{Worked, has_work, is_busy}
 use Rattle.tau_run.specs.Schedule as todo
-use Rattle.tau_run.specs.Schedule.{Todo, Did, peeked, on}
-use Rattle.tau_run.proofs.Steps.{began_none}
+use Rattle.tau_run.specs.Schedule.{Todo, peeked, on}
+use Rattle.tau_run.proofs.Steps.{Did, began_none}
 use Rattle.tau_step.proofs.ToSteps.{alone_over, acts_alone, left_over_over, resumes}
 use Rattle.tau_step.specs.Along.{Quiet}
 use Rattle.tau_step.specs.Counts.{flushed_in}

@@ -15,8 +15,8 @@ use Rattle.tau_text.specs.declared.load.Turn.TheVariants as turn
 use Rattle.tau_run.specs.Run.{below}
 use Rattle.tau_run.specs.Turns.{Progress, Stays, IfSo, is_empty, is_going, is_raised, any_left, Goes, Tells, Flushed, Gathers, Anchored}
 use Rattle.tau_run.specs.Schedule as todo
-use Rattle.tau_run.specs.Schedule.{Todo, peeked, Does, Did, Began, Acts, TakesTurn, has_turn, any_turn, is_flushed, has_covered}
-use Rattle.tau_run.proofs.Steps.{if_known, if_yes, if_not, did_nothing, did_step, did_after, began_none, began_step, began_after, began_first}
+use Rattle.tau_run.specs.Schedule.{Todo, peeked, Does, Began, Acts, TakesTurn, has_turn, any_turn, is_flushed, has_covered}
+use Rattle.tau_run.proofs.Steps.{Did, if_known, if_yes, if_not, did_nothing, did_step, did_after, began_none, began_step, began_after, began_first}
 use Rattle.tau_step.specs.Optimists.{Peeks}
 use Rattle.tau_step.specs.Rounding.{none_peeked}
 use Rattle.tau_step.specs.TurnParts.{has_work, Worked, Managed, Cleared, OneByOne, DropOf, ManagedPart, Turned}
