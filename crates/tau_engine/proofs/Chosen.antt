@@ -5,9 +5,10 @@ use Rattle.tau_text.specs.declared.load.Turn.{Turn}
 use Rattle.tau_text.specs.declared.load.Workload.{Workload}
 use Rattle.tau_machine.specs.State.{Core}
 use Rattle.tau_core.specs.declared.state.Load.{Load}
+use Rattle.tau_occ.specs.declared.style.Style.TheVariants.{Locking}
 use Rattle.tau_run.specs.RunFacts.{IsByTurns, chosen_by}
 use Rattle.tau_run.specs.Turns.{Progress}
 
-pub chosen : (turns : Option (List Turn)) (whole : Bool) (n m : ℕ) (load : Workload) (l : Load) (opening : Core) (p : Progress) → IsByTurns whole n m load l opening p → chosen_by turns n m load whole l opening p
+pub chosen : (turns : Option (List Turn)) (whole : Bool) (n m : ℕ) (load : Workload) (l : Load) (opening : Core) (p : Progress) → IsByTurns Locking whole n m load l opening p → chosen_by turns Locking n m load whole l opening p
 chosen None whole n m load l opening p h = tt
 chosen (Some turns) whole n m load l opening p h = h

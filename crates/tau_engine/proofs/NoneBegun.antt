@@ -22,12 +22,13 @@ use Rattle.tau_run.specs.CoreRun.{IsCourse, IsFirstState, IsRunOf, IsSoundLoad}
 use Rattle.tau_run.specs.StopsLeave.{IsLeft}
 use Rattle.tau_run.specs.RunFacts.{Ending, turns_of, IsCoreRun, IsCoreRunAt, RunTells, RunFacts}
 use Rattle.tau_run.specs.RunFacts as told
-use Rattle.tau_run.specs.Turns.{begun, IsPartOfRun}
+use Rattle.tau_run.specs.Schedule.{here, todos_of}
+use Rattle.tau_run.specs.Turns.{begun}
 use Rattle.tau_run.proofs.Imaged.{imaged}
 use Rattle.tau_run.proofs.NotBegun.{nothing_begun}
 use Rattle.tau_run.proofs.Results.{history_law}
 use Rattle.tau_engine.specs.Runs.{ran_by}
-use Rattle.tau_engine.proofs.NotBegun.{none_of, never_stopped}
+use Rattle.tau_engine.proofs.NotBegun.{never_stopped}
 
 module _ (n m : ℕ) (mode : LogMode) (load : Workload) (start : Start) (rows : List (Key × Value)) (some : 1 ≤ n) (room : n ≤ most_streams (format_of mode)) (workers : 1 ≤ m) (begins : IsStart (format_of mode) n load start) (sound : IsSoundLoad load) (rows_are : db_of_rows rows ≡ start.base) where
   abbrev Nothing : Type 0
@@ -57,7 +58,7 @@ module _ (n m : ℕ) (mode : LogMode) (load : Workload) (start : Start) (rows : 
   -- no event was chosen, by turns or in threads
   none_chosen : (turns : Option (List Turn)) → ran_by turns n m load false l opening (begun opening)
   none_chosen None = ((refl, refl), tt)
-  none_chosen (Some turns) = IsPartOfRun.in_turns (none_of (setting_of l) m n (turns_of load) (begun opening))
+  none_chosen (Some turns) = ((λ w. []), todos_of (setting_of l) m n (turns_of load), here)
 
   core : IsCoreRun (ran_by load.turns n m load false) n m mode load (λ j. None) run
   core = record {

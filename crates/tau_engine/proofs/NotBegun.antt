@@ -15,28 +15,28 @@ use Rattle.tau_model.specs.History.{Member, Numbered}
 use Rattle.tau_model.specs.Tables.{db_of_rows}
 use Rattle.tau_machine.specs.Accounts.{in_worker}
 use Rattle.tau_machine.specs.Worker.{Worker}
-use Rattle.tau_machine.specs.State.{Setting, Core}
+use Rattle.tau_machine.specs.State.{Core}
 use Rattle.tau_machine.specs.Invariant.{Invariant}
 use Rattle.tau_machine.specs.Reports.{reported}
 use Rattle.tau_machine.specs.Runs.{IsOpening, Run as MachineRun}
 use Rattle.tau_machine.proofs.Runs.{run_invariant}
-use Rattle.tau_text.specs.declared.load.Turn.{Turn}
-use Rattle.tau_text.specs.declared.load.Turn.TheVariants as turn
 use Rattle.tau_text.specs.declared.load.Workload.{Workload}
 use Rattle.tau_core.specs.declared.state.Load.{Load}
 use Rattle.tau_core.specs.View.{setting_of, call_of, worker_of, from_on}
 use Rattle.tau_core.proofs.Turns.{call_there, once_there, whose_there}
-use Rattle.tau_run.specs.Run.{Run, told_of, below, IsHistory}
+use Rattle.tau_run.specs.Run.{Run, told_of, IsHistory}
 use Rattle.tau_run.specs.Outside.{Outside}
 use Rattle.tau_run.specs.Start.{fresh_start, catalogue_of, old_at, opened_at}
 use Rattle.tau_run.proofs.Fresh.{fresh_begins, fresh_is_sound, fresh_olds, fresh_opened, fresh_load}
 use Rattle.tau_run.specs.CoreRun.{IsLoadOn, IsFirstState, IsGiven, IsRunOf}
 use Rattle.tau_run.specs.StopsLeave.{IsLeft}
 use Rattle.tau_engine.proofs.Chosen.{chosen}
+use Rattle.tau_occ.specs.declared.style.Style.TheVariants.{Locking}
 use Rattle.tau_run.specs.RunFacts.{Ending, chosen_by, IsCoreRun, IsCoreRunAt, RunTells, RunFacts, turns_of}
 use Rattle.tau_run.specs.RunFacts as told
 use Rattle.tau_run.specs.StopsLeave.{NamesLowest}
-use Rattle.tau_run.specs.Turns.{Progress, begun, Turned, TurnedAll, OneByOne, Cleared, IsPartOfRun}
+use Rattle.tau_run.specs.Schedule.{here, todos_of}
+use Rattle.tau_run.specs.Turns.{begun}
 use Rattle.tau_run.proofs.Acked.{whole}
 use Rattle.tau_run.proofs.History.{is_set, is_history}
 use Rattle.tau_run.proofs.Order.{once}
@@ -46,23 +46,6 @@ use Rattle.tau_run.proofs.Streams.{AreSound, IsDeclaredCourse}
 use Rattle.tau_engine.proofs.Opened.{low_streams}
 use Rattle.tau_base.proofs.Lists.{got_within}
 use Rattle.tau_base.proofs.Logic.{replicated}
-
--- ---- nothing happens in a part of a run
-
-none_told : (set : Setting) (m n : ℕ) (ws : List ℕ) (p : Progress) → OneByOne set m n (λ b w. Cleared set m n w b) false ws p p
-none_told set m n [] p = refl
-none_told set m n (w ∷ ws) p = inl Cleared.cut
-
-none_turned : (set : Setting) (m n : ℕ) (t : Turn) (p : Progress) → Turned set m n false t p p
-none_turned set m n (turn.Worker w) p = refl
-none_turned set m n (turn.Manager j) p = inl refl
-none_turned set m n (turn.Anchor j) p = refl
-none_turned set m n turn.Clerk p = none_told set m n (below m) p
-none_turned set m n turn.Drop p = inl refl
-
-pub none_of : (set : Setting) (m n : ℕ) (ts : List Turn) (p : Progress) → TurnedAll set m n false ts p p
-none_of set m n [] p = refl
-none_of set m n (t ∷ ts) p = inl (none_turned set m n t p)
 
 pub never_stopped : (k : ℕ) → None ≡ Some k → ⊥
 never_stopped k e = cc
@@ -209,7 +192,7 @@ module _ (n m : ℕ) (mode : LogMode) (load : Workload) (some : 1 ≤ n) (room :
   history : IsHistory n m load empty_run
   history = is_history (setting_of l) [] first inv n m load empty_run (is_set n m mode load (fresh_start n) l (length-replicate n []) load_is) is_run.calls is_run.streams (lengths_same n catalogue) is_run.acks
 
-  core : IsCoreRun (chosen_by load.turns n m load false) n m mode load (λ j. None) empty_run
+  core : IsCoreRun (chosen_by load.turns Locking n m load false) n m mode load (λ j. None) empty_run
   core = record {
     stands_on = l;
     load_is = load_is;
@@ -217,7 +200,7 @@ module _ (n m : ℕ) (mode : LogMode) (load : Workload) (some : 1 ≤ n) (room :
     first = starts;
     progress = begun first;
     led = led;
-    chosen = chosen load.turns false n m load l first (begun first) (IsPartOfRun.in_turns (none_of (setting_of l) m n (turns_of load) (begun first)));
+    chosen = chosen load.turns false n m load l first (begun first) ((λ w. []), todos_of (setting_of l) m n (turns_of load), here);
     is = is_run;
     told = refl;
     stopped = λ j lt. refl;
@@ -231,7 +214,7 @@ module _ (n m : ℕ) (mode : LogMode) (load : Workload) (some : 1 ≤ n) (room :
   MayEnd told.NoMemory = Unit {0}
   MayEnd told.NotBegun = Unit {0}
 
-  core_at : (ending : Ending) → MayEnd ending → IsCoreRunAt (chosen_by load.turns n m load) n m mode load (λ j. None) empty_run ending
+  core_at : (ending : Ending) → MayEnd ending → IsCoreRunAt (chosen_by load.turns Locking n m load) n m mode load (λ j. None) empty_run ending
   core_at told.Done may = absurd may
   core_at (told.DiskFailed j) may = inr (refl, refl, λ i lt. refl)
   core_at told.SinkFailed may = absurd may
@@ -254,7 +237,7 @@ module _ (n m : ℕ) (mode : LogMode) (load : Workload) (some : 1 ≤ n) (room :
   -- all that is said of it, where each image has nothing or the catalogue
   abbrev built_of_none : (o : Outside) → fresh_start n ≡ o.start → (ending : Ending) → MayEnd ending →
       (o.began_in_order → (j : ℕ) (x : List ℕ) → j < n → o.may_have_left j x → HasContent One n j [] x ⊎ HasContent One n j catalogue x) →
-      RunTells n mode load o (λ j. None) empty_run ending → RunFacts (chosen_by load.turns n m load) n m mode load o ending
+      RunTells n mode load o (λ j. None) empty_run ending → RunFacts (chosen_by load.turns Locking n m load) n m mode load o ending
   built_of_none o begun ending may left tells = record {
     run = empty_run;
     begins = begun;
@@ -281,7 +264,7 @@ module _ (n m : ℕ) (mode : LogMode) (load : Workload) (some : 1 ≤ n) (room :
   -- so it is where a disk failed before it began
   pub told_of_failed : (j : ℕ) (o : Outside) → fresh_start n ≡ o.start → (o.began_in_order → (i : ℕ) (x : List ℕ) → i < n → o.may_have_left i x → HasContent One n i [] x ⊎ HasContent One n i catalogue x) →
       RunTells n mode load o (λ i. None) empty_run (told.DiskFailed j) →
-      (facts : RunFacts (chosen_by load.turns n m load) n m mode load o (told.DiskFailed j)) × (facts.run.acks ≡ [])
+      (facts : RunFacts (chosen_by load.turns Locking n m load) n m mode load o (told.DiskFailed j)) × (facts.run.acks ≡ [])
       × ((none : (facts.run.calls ≡ []) × (facts.run.acks ≡ []) × NamesLowest n facts.stops None) × (facts.core ≡ inr none))
   unfolding core_at
   told_of_failed j o begun left tells = (built_of_none o begun (told.DiskFailed j) tt left tells, refl, ((refl, refl, λ i lt. refl), refl))

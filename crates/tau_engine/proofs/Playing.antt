@@ -18,6 +18,7 @@ use Rattle.tau_open.specs.declared.refusal.OpenRefusal.TheVariants.{Failed}
 use Rattle.tau_text.specs.declared.load.Workload.{Workload}
 use Rattle.tau_core.specs.declared.state.Load.{Load}
 use Rattle.tau_run.specs.Run.{Run}
+use Rattle.tau_occ.specs.declared.style.Style.TheVariants.{Locking}
 use Rattle.tau_run.specs.RunFacts.{IsCoreRunAt, chosen_by}
 use Rattle.tau_run.specs.StopsLeave.{HasFront, NamesLowest}
 use Rattle.tau_run.specs.Start.{catalogue_of}
@@ -105,6 +106,6 @@ module _ {D : Type 0} (G : Ghosts D) (n : ℕ) (catalogue : List ℕ) (l : Load)
       )
 
 -- a disk failed before the run began
-pub none_played : {D : Type 0} (G : Ghosts D) (n m : ℕ) (load : Workload) (old new : List D) (j : ℕ) (stops : ℕ → Option ℕ) (run : Run) (core : IsCoreRunAt (chosen_by load.turns n m load) n m Values load stops run (ending_by (Some j)))
+pub none_played : {D : Type 0} (G : Ghosts D) (n m : ℕ) (load : Workload) (old new : List D) (j : ℕ) (stops : ℕ → Option ℕ) (run : Run) (core : IsCoreRunAt (chosen_by load.turns Locking n m load) n m Values load stops run (ending_by (Some j)))
     (none : (run.calls ≡ []) × (run.acks ≡ []) × NamesLowest n stops None) → core ≡ inr none → Refuses G n (catalogue_of load) old new (Failed j) → IsPlayedBy G n m load old new (Some j) stops run core
-none_played G n m load old new j stops run core none is refused = subst (λ (c : IsCoreRunAt (chosen_by load.turns n m load) n m Values load stops run (ending_by (Some j))). IsPlayedBy G n m load old new (Some j) stops run c) (sym is) refused
+none_played G n m load old new j stops run core none is refused = subst (λ (c : IsCoreRunAt (chosen_by load.turns Locking n m load) n m Values load stops run (ending_by (Some j))). IsPlayedBy G n m load old new (Some j) stops run c) (sym is) refused

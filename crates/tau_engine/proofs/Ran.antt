@@ -16,6 +16,7 @@ use Rattle.tau_core.specs.declared.state.Load.{Load}
 use Rattle.tau_core.specs.Opens.{load_of}
 use Rattle.tau_run.specs.CoreRun.{IsLoadOn, IsOpeningOn}
 use Rattle.tau_run.specs.Gives.{Gave, GaveFrom, GaveNew}
+use Rattle.tau_occ.specs.declared.style.Style.TheVariants.{Locking}
 use Rattle.tau_run.specs.RunFacts.{chosen_by}
 use Rattle.tau_run.specs.Start.{Start, IsStart, fresh_start, opened_at, opened_with}
 use Rattle.tau_run.specs.Turns.{Progress}
@@ -24,7 +25,7 @@ use Rattle.tau_run.proofs.Fresh.{fresh_opened}
 use Rattle.tau_engine.specs.Runs.{ran_by}
 
 -- in a drill nothing more is asked of the events of a run in threads than that they are some
-pub as_chosen : (turns : Option (List Turn)) (n m : ℕ) (load : Workload) (whole : Bool) (l : Load) (opening : Core) (p : Progress) → ran_by turns n m load whole l opening p → chosen_by turns n m load whole l opening p
+pub as_chosen : (turns : Option (List Turn)) (n m : ℕ) (load : Workload) (whole : Bool) (l : Load) (opening : Core) (p : Progress) → ran_by turns n m load whole l opening p → chosen_by turns Locking n m load whole l opening p
 as_chosen None n m load whole l opening p x = tt
 as_chosen (Some turns) n m load whole l opening p x = x
 

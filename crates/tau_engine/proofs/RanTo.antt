@@ -20,6 +20,7 @@ use Rattle.tau_run.proofs.Fresh.{fresh_begins, fresh_is_sound, fresh_opened}
 use Rattle.tau_scan.specs.Sound.{IsSound}
 use Rattle.tau_run.specs.CoreRun.{IsCourse, IsLoadOn, IsRunOf, IsSoundLoad}
 use Rattle.tau_run.specs.StopsLeave.{IsOver}
+use Rattle.tau_occ.specs.declared.style.Style.TheVariants.{Locking}
 use Rattle.tau_run.specs.RunFacts.{chosen_by, IsCoreRun}
 use Rattle.tau_run.specs.Turns.{Progress}
 use Rattle.tau_run.specs.Gives.{CameTo, came_far}
@@ -31,9 +32,9 @@ use Rattle.tau_engine.specs.DiskFacts.{Now}
 use Rattle.tau_engine.proofs.Streams.{OnlyNow, Way, fresh_way, Joined, joined, leaves}
 
 module _ {D : Type 0} {G : Ghosts D} (only_now : OnlyNow G) (n m : ℕ) (mode : LogMode) (load : Workload) (sound : IsSoundLoad load) (l : Load) (load_is : IsLoadOn n m mode load (fresh_start n) l) (ws ws' : List (Writer D G)) (acks : List (ℕ × List ℕ))
-    (t : CameTo (chosen_by load.turns n m load) (opened_at load (fresh_start n)) l ws ws' acks) where
+    (t : CameTo (chosen_by load.turns Locking n m load) (opened_at load (fresh_start n)) l ws ws' acks) where
   abbrev by : Bool → Load → Core → Progress → Type 0
-  by = chosen_by load.turns n m load
+  by = chosen_by load.turns Locking n m load
 
   abbrev begins : IsStart (format_of mode) n load (fresh_start n)
   begins = fresh_begins (format_of mode) n load

@@ -30,6 +30,7 @@ use Rattle.tau_scan.specs.Sound.{IsSound}
 use Rattle.tau_run.specs.Start.{fresh_start, catalogue_of, old_at, opened_at}
 use Rattle.tau_run.specs.CoreRun.{IsCourse, IsLoadOn, IsRunOf, IsSoundLoad}
 use Rattle.tau_run.specs.StopsLeave.{IsLeft, IsOver, NamesLowest, stops_in}
+use Rattle.tau_occ.specs.declared.style.Style.TheVariants.{Locking}
 use Rattle.tau_run.specs.RunFacts.{by_turns, chosen_by, IsCoreRun}
 use Rattle.tau_run.proofs.Came as of
 use Rattle.tau_run.proofs.Came.{came_by}
@@ -55,9 +56,9 @@ use Rattle.tau_engine.proofs.Streams.{OnlyNow, fresh_way, Joined, clean_below, f
 
 -- a run of any kind that went to its end, on these writers, where the sink has not failed
 module _ {D : Type 0} {G : Ghosts D} (only_now : OnlyNow G) (n m : ℕ) (load : Workload) (old mid new : List D) (many : n ≤ length old) (ws after : List (Writer D G)) (streams : AreOpened G n (catalogue_of load) old mid ws) (back : new ≡ map disk_of after ++ mid)
-    (tells : G.tells) (hears : Type 0) (held held' : List ℕ) (rose : Type 0) (end : RunEnd) (sound : IsSoundLoad load) (l : Load) (load_is : IsLoadOn n m Values load (fresh_start n) l) (how : Bool → Load → Core → Progress → Type 0) (also : (whole : Bool) (opening : Core) (p : Progress) → how whole l opening p → chosen_by load.turns n m load whole l opening p) (h : Concluded how (opened_at load (fresh_start n)) l ws after hears held held' rose end) (works : end.sink_failed ≡ false) where
-  abbrev t : CameTo (chosen_by load.turns n m load) (opened_at load (fresh_start n)) l ws after h.acks
-  t = came_by how (chosen_by load.turns n m load) (opened_at load (fresh_start n)) l ws after also h.came
+    (tells : G.tells) (hears : Type 0) (held held' : List ℕ) (rose : Type 0) (end : RunEnd) (sound : IsSoundLoad load) (l : Load) (load_is : IsLoadOn n m Values load (fresh_start n) l) (how : Bool → Load → Core → Progress → Type 0) (also : (whole : Bool) (opening : Core) (p : Progress) → how whole l opening p → chosen_by load.turns Locking n m load whole l opening p) (h : Concluded how (opened_at load (fresh_start n)) l ws after hears held held' rose end) (works : end.sink_failed ≡ false) where
+  abbrev t : CameTo (chosen_by load.turns Locking n m load) (opened_at load (fresh_start n)) l ws after h.acks
+  t = came_by how (chosen_by load.turns Locking n m load) (opened_at load (fresh_start n)) l ws after also h.came
 
   abbrev s : Core
   s = t.state
@@ -80,7 +81,7 @@ module _ {D : Type 0} {G : Ghosts D} (only_now : OnlyNow G) (n m : ℕ) (load : 
   pub lowest : NamesLowest n (stops_in s) end.disk
   lowest = subst (λ (k : ℕ). NamesLowest k (stops_in s) end.disk) load_is.streams h.disk
 
-  abbrev core : IsCoreRun (chosen_by load.turns n m load true) n m Values load (λ j. (s.streams j).stop) run
+  abbrev core : IsCoreRun (chosen_by load.turns Locking n m load true) n m Values load (λ j. (s.streams j).stop) run
   core = record { stands_on = l; load_is = load_is; opening = t.opening; first = t.first; progress = came_far t; led = t.led; chosen = also true t.opening (came_far t) h.whole; is = is; told = refl; stopped = λ j lt. refl }
 
   at_leaves : Leaves n (opened_at load run.start) l s (Now G.tells G.may_leave old new) (RoseAt G.faults old new)
@@ -170,25 +171,25 @@ module _ {D : Type 0} {G : Ghosts D} (only_now : OnlyNow G) (n m : ℕ) (load : 
     (streams : AreOpened G n (catalogue_of load) old mid ws) (tells : G.tells) (hears : Type 0) (held held' : List ℕ) (rose : Type 0) (p : PlaysOn m load ws mid new hears held held' rose) where
   pub rehearsed_on : MayLeaveEach G.tells G.may_leave G.image → IsPlay G n m load old new (Wrote hears held held')
   rehearsed_on each =
-      let how : Bool → Load → Core → Progress → Type 0 = counting ws p.after (chosen_by load.turns n m load) in
-      let g = gave (λ k. counting ws p.after (by_turns k m load)) how n m Values load (λ whole l opening q x. (chosen load.turns whole n m load l opening q x.0, x.1)) ws p.after streams.count hears held held' rose (Ok p.end) p.ran in
+      let how : Bool → Load → Core → Progress → Type 0 = counting ws p.after (chosen_by load.turns Locking n m load) in
+      let g = gave (λ k. counting ws p.after (by_turns Locking k m load)) how n m Values load (λ whole l opening q x. (chosen load.turns whole n m load l opening q x.0, x.1)) ws p.after streams.count hears held held' rose (Ok p.end) p.ran in
       rehearsal only_now n m load old mid new many ws p.after streams p.back tells hears held held' rose p.end sound g.0 g.1 how (λ whole opening q x. x.0) g.2 p.heard each (g.2.whole.1 refl)
 
 -- a run in which nothing failed, with its rows
 module _ {D : Type 0} {G : Ghosts D} (only_now : OnlyNow G) (n m : ℕ) (load : Workload) (room : n ≤ 16) (sound : IsSoundLoad load) (old mid new : List D) (many : n ≤ length old) (ws : List (Writer D G))
     (streams : AreOpened G n (catalogue_of load) old mid ws) (tells : G.tells) (hears : Type 0) (held held' : List ℕ) (rose : Type 0) (rows : List (Key × Value)) (q : PlaysWell m load ws mid new hears held held' rose rows) where
-  h_gave : (l : Load) × IsLoadOn n m Values load (fresh_start n) l × Concluded (chosen_by load.turns n m load) (opened_at load (fresh_start n)) l ws q.after hears held held' rose q.end
-  h_gave = gave (λ k. ran_by load.turns k m load) (chosen_by load.turns n m load) n m Values load (as_chosen load.turns n m load) ws q.after streams.count hears held held' rose (Ok q.end) q.ran
+  h_gave : (l : Load) × IsLoadOn n m Values load (fresh_start n) l × Concluded (chosen_by load.turns Locking n m load) (opened_at load (fresh_start n)) l ws q.after hears held held' rose q.end
+  h_gave = gave (λ k. ran_by load.turns k m load) (chosen_by load.turns Locking n m load) n m Values load (as_chosen load.turns n m load) ws q.after streams.count hears held held' rose (Ok q.end) q.ran
 
   going : NamesLowest n (stops_in h_gave.2.came.state) None
-  going = subst (λ (o : Option ℕ). NamesLowest n (stops_in h_gave.2.came.state) o) q.whole (lowest only_now n m load old mid new many ws q.after streams q.back tells hears held held' rose q.end sound h_gave.0 h_gave.1 (chosen_by load.turns n m load) (λ whole opening p x. x) h_gave.2 q.heard)
+  going = subst (λ (o : Option ℕ). NamesLowest n (stops_in h_gave.2.came.state) o) q.whole (lowest only_now n m load old mid new many ws q.after streams q.back tells hears held held' rose q.end sound h_gave.0 h_gave.1 (chosen_by load.turns Locking n m load) (λ whole opening p x. x) h_gave.2 q.heard)
 
   pub measured_on : IsMeasured G n m load old new (Wrote hears held held') rows
   measured_on = record {
-    rehearsed = went_well only_now n m load old mid new many ws q.after streams q.back tells hears held held' rose q.end sound h_gave.0 h_gave.1 (chosen_by load.turns n m load) (λ whole opening p x. x) h_gave.2 q.heard going;
-    all = complete only_now n m load old mid new many ws q.after streams q.back tells hears held held' rose q.end sound h_gave.0 h_gave.1 (chosen_by load.turns n m load) (λ whole opening p x. x) h_gave.2 q.heard going;
-    present = subst (λ (xs : List (Key × Value)). IsTablesOf (last_db load (run only_now n m load old mid new many ws q.after streams q.back tells hears held held' rose q.end sound h_gave.0 h_gave.1 (chosen_by load.turns n m load) (λ whole opening p x. x) h_gave.2 q.heard)) xs) q.rows_are
-        (present only_now n m load old mid new many ws q.after streams q.back tells hears held held' rose q.end sound h_gave.0 h_gave.1 (chosen_by load.turns n m load) (λ whole opening p x. x) h_gave.2 q.heard);
+    rehearsed = went_well only_now n m load old mid new many ws q.after streams q.back tells hears held held' rose q.end sound h_gave.0 h_gave.1 (chosen_by load.turns Locking n m load) (λ whole opening p x. x) h_gave.2 q.heard going;
+    all = complete only_now n m load old mid new many ws q.after streams q.back tells hears held held' rose q.end sound h_gave.0 h_gave.1 (chosen_by load.turns Locking n m load) (λ whole opening p x. x) h_gave.2 q.heard going;
+    present = subst (λ (xs : List (Key × Value)). IsTablesOf (last_db load (run only_now n m load old mid new many ws q.after streams q.back tells hears held held' rose q.end sound h_gave.0 h_gave.1 (chosen_by load.turns Locking n m load) (λ whole opening p x. x) h_gave.2 q.heard)) xs) q.rows_are
+        (present only_now n m load old mid new many ws q.after streams q.back tells hears held held' rose q.end sound h_gave.0 h_gave.1 (chosen_by load.turns Locking n m load) (λ whole opening p x. x) h_gave.2 q.heard);
   }
 
 -- what a sink that tells has heard

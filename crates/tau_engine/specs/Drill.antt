@@ -30,6 +30,7 @@ use Rattle.tau_open.specs.Opening.{Refuses}
 use Rattle.tau_open.specs.declared.refusal.OpenRefusal.TheVariants.{Failed}
 use Rattle.tau_run.specs.Start.{fresh_start, catalogue_of}
 use Rattle.tau_run.specs.Outside.{Outside}
+use Rattle.tau_occ.specs.declared.style.Style.TheVariants.{Locking}
 use Rattle.tau_run.specs.RunFacts as ending
 use Rattle.tau_run.specs.Gives.{GaveNew}
 use Rattle.tau_run.specs.RunFacts.{RunFacts, IsCoreRunAt, by_turns, chosen_by, turns_of}
@@ -109,7 +110,7 @@ pub record PlaysOn {D : Type 0} {G : Ghosts D} (m : ℕ) (load : Workload) (ws :
   pub after : List (Writer D G)
   pub back : now ≡ map disk_of after ++ rest
   pub end : RunEnd
-  pub ran : GaveNew (counting ws after (by_turns (length ws) m load)) m Values load ws after hears held held' rose (Ok end)
+  pub ran : GaveNew (counting ws after (by_turns Locking (length ws) m load)) m Values load ws after hears held held' rose (Ok end)
   pub heard : end.sink_failed ≡ false
 
 module _ {D : Type 0} (G : Ghosts D) where
@@ -139,12 +140,12 @@ module _ {D : Type 0} (G : Ghosts D) where
   pub record IsRehearsed (n m : ℕ) (load : Workload) (old new : List D) (wrote : List ℕ → Type 0) : Type 0 where
     pub failed : Option ℕ
     pub ends : EndsAt n old new failed
-    pub facts : RunFacts (chosen_by load.turns n m load) n m Values load (outside_of_drill n old new) (ending_by failed)
+    pub facts : RunFacts (chosen_by load.turns Locking n m load) n m Values load (outside_of_drill n old new) (ending_by failed)
     pub acked : wrote (ack_lines facts.run.acks)
 
   -- The disks are those of the calls of the run that was told, and of each that failed in it is told what it holds; or if a
   -- disk failed before the run began, of the calls that were to open the streams.
-  abbrev pub IsPlayedBy : (n m : ℕ) (load : Workload) (old new : List D) (failed : Option ℕ) (stops : ℕ → Option ℕ) (run : Run) → IsCoreRunAt (chosen_by load.turns n m load) n m Values load stops run (ending_by failed) → Type 0
+  abbrev pub IsPlayedBy : (n m : ℕ) (load : Workload) (old new : List D) (failed : Option ℕ) (stops : ℕ → Option ℕ) (run : Run) → IsCoreRunAt (chosen_by load.turns Locking n m load) n m Values load stops run (ending_by failed) → Type 0
   IsPlayedBy n m load old new None stops run core = ArePlayed G n (catalogue_of load) core.stands_on old new core.progress
   IsPlayedBy n m load old new (Some j) stops run (inl core) = ArePlayed G n (catalogue_of load) core.stands_on old new core.progress
   IsPlayedBy n m load old new (Some j) stops run (inr none) = Refuses G n (catalogue_of load) old new (Failed j)

@@ -10,6 +10,7 @@ use Rattle.tau_machine.specs.State.{Core}
 use Rattle.tau_core.specs.declared.opening.Opening.{Opening}
 use Rattle.tau_core.specs.declared.state.Load.{Load}
 use Rattle.tau_run.specs.Gives.{GaveFrom}
+use Rattle.tau_occ.specs.declared.style.Style.TheVariants.{Locking}
 use Rattle.tau_run.specs.RunFacts.{by_turns}
 use Rattle.tau_run.specs.Turns.{Progress}
 use Rattle.tau_crew_facts.specs.Threads.{in_threads}
@@ -24,7 +25,7 @@ use Rattle.tau_commands.specs.Outside.{Wrote}
 -- How the events of a run are chosen: by turns if the workload has them, also none, else in threads.
 abbrev pub ran_by : Option (List Turn) → ℕ → ℕ → Workload → Bool → Load → Core → Progress → Type 0
 ran_by None n m load = in_threads
-ran_by (Some turns) n m load = by_turns n m load
+ran_by (Some turns) n m load = by_turns Locking n m load
 
 -- What was told after the acknowledgements of a run that went to its end, by the answer: the rest of the report, a
 -- first part of it where the sink failed, and nothing where it had failed before.

@@ -20,6 +20,7 @@ use tau_commands::{Status, refuse_scan};
 use tau_core::Opening;
 use tau_crew::run_threads_from;
 use tau_disk::{Disk, Gate, Sink, write_all};
+use tau_occ::Style;
 use tau_open::close_streams;
 use tau_report::{RunEnd, report_text};
 use tau_step::run_turns_from;
@@ -83,7 +84,16 @@ fn run_from<R: Threads + Wait + Sync, D: Disk + Send, K: Sink + Send, G: Gate + 
     } = ready;
     match load.turns {
         Some(_) => {
-            let end = run_turns_from(alloc, load, opening, workers, mode, &mut writers, sink);
+            let end = run_turns_from(
+                alloc,
+                load,
+                opening,
+                workers,
+                mode,
+                &mut writers,
+                sink,
+                Style::Locking,
+            );
             (end, writers)
         }
         None => {
