@@ -63,17 +63,26 @@ fn a_row_that_is_held(rt: HostRuntime) -> Result<(), Fail> {
 
 const PUTS: &[u8] = b"table a\nput a 1 5\nput a 1 6\nturns w0 w1\n";
 
-const LEFT_OVER: &[u8] = b"table a\nput a 1 5\nput a 1 6\nturns w0 w1 w1 w1 w1 w1 w1 w1 w1 w1 w1 w1 w1 w1 w1 w1 w1 w1 w1 w1 w1 w1 w1 w1 w1 w1 w1 w1 w1 w1 w1 w1 w1 w1 w1 w1 w1 w1 w1 w1 w1 w1 w1 w1 w1 w1 w1 w1 w1 w1 w1 w1 w1 w1 w1 w1 w1 w1 w1 w1 w1 w1 w1 w1 w1\n";
+const PUTS_THE_OTHER_WAY: &[u8] = b"table a\nput a 1 5\nput a 1 6\nturns w1 w0\n";
+
+const LEFT_OVER: &[u8] =
+    b"table a\nput a 1 5\nput a 1 6\nturns w0 w1 w1 w1 w1 w1 w1 w1 w1 w1 w1 w1 w1 w1 w1 w1 w1 w1 w1 w1 w1 w1 w1 w1 w1 w1 w1 w1 w1 w1 w1 w1 w1 w1 w1 w1 w1 w1 w1 w1 w1 w1 w1 w1 w1 w1 w1 w1 w1 w1 w1 w1 w1 w1 w1 w1 w1 w1 w1 w1 w1 w1 w1 w1 w1\n";
 
 const IN_ORDER: &[u8] =
     b"ack 1 53,0\nack 2 53,61\nreply 1 none\nreply 2 none\norder 1\norder 2\nrow a 1 int 6\nend 0\n";
 
-// A put reads no row, so there is nothing to peek: worker 1 meets Busy in either style.
+const THE_OTHER_WAY: &[u8] =
+    b"ack 2 0,53\nack 1 61,53\nreply 1 none\nreply 2 none\norder 2\norder 1\nrow a 1 int 5\nend 0\n";
+
+// A put reads no row, so there is nothing to peek: the second worker meets Busy in either style.
 #[test]
 fn puts_in_either_style(rt: HostRuntime) -> Result<(), Fail> {
     let alloc = rt.alloc();
     assert!(rt; told_in(alloc, PUTS, 2, Style::Locking)?.as_slice() == IN_ORDER);
     assert!(rt; told_in(alloc, PUTS, 2, Style::Optimistic)?.as_slice() == IN_ORDER);
+    let other = PUTS_THE_OTHER_WAY;
+    assert!(rt; told_in(alloc, other, 2, Style::Locking)?.as_slice() == THE_OTHER_WAY);
+    assert!(rt; told_in(alloc, other, 2, Style::Optimistic)?.as_slice() == THE_OTHER_WAY);
     Ok(())
 }
 
