@@ -18,7 +18,7 @@ use Rattle.tau_machine.specs.Shard.{at}
 use Rattle.tau_machine.specs.State.{Setting, Core, Stream, Item, past_of}
 use Rattle.tau_machine.specs.Events as machine
 use Rattle.tau_machine.specs.Waits.{IsGathered, Waits}
-use Rattle.tau_machine.specs.Events.{Gathered, Leads, stop, record_first, anchor_first}
+use Rattle.tau_machine.specs.Events.{Gathered, stop, record_first, anchor_first}
 use Rattle.tau_machine.proofs.At.{at_same}
 use Rattle.tau_outbox.specs.declared.Piece.{Piece}
 use Rattle.tau_outbox.specs.Gather.{Stops}

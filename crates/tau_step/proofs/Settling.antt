@@ -14,7 +14,7 @@ use Rattle.tau_machine.specs.Shard.{at, entry_in}
 use Rattle.tau_machine.specs.Worker.{Worker, begun_by, hand_freed, hand_locked}
 use Rattle.tau_machine.specs.State.{Setting, Core}
 use Rattle.tau_machine.specs.Events as events
-use Rattle.tau_machine.specs.Events.{Leads, Locks, Commits, Posts, Reads, Frees, Finishes, ready}
+use Rattle.tau_machine.specs.Events.{Locks, Commits, Posts, Reads, Frees, Finishes, ready}
 use Rattle.tau_machine.proofs.At.{at_same, at_other}
 use Rattle.tau_shard.specs.Blocks.{against}
 use Rattle.tau_core.specs.declared.event.Event.TheVariants as event

@@ -5,13 +5,13 @@ mod clerk;
 mod device;
 mod end;
 mod flushes;
+mod laws;
 mod manager;
-mod optimists;
 mod run;
 mod seen;
 mod top;
 mod worker;
 
 pub use device::device_order;
-pub use optimists::{locks_are_turns, peeks_are_turns, whole_runs_end};
+pub use laws::{locks_are_turns, peeks_are_turns, whole_runs_end};
 pub use top::{run_turns, run_turns_from};
