@@ -25,23 +25,27 @@ const TEXT: &[u8] = b"table a\nput a 1 5\nadd a 1 2\nturns w0 w0 w0 w0 w0\n";
 const REPORT: &[u8] =
     b"ack 1 53,0\nack 2 53,61\nreply 1 none\nreply 2 int 7\norder 1\norder 2\nrow a 1 int 7\nend 0\n";
 
-/// Two new disks.
-fn two_disks(alloc: Global) -> Result<Vec<MemDisk>, Fail>
+/// Two new disks. The calls of the second one with these numbers fail.
+fn two_disks(alloc: Global, failing: &[u32]) -> Result<Vec<MemDisk>, Fail>
     ensures { IfOk result (λ disks. vec_len disks ≡ 2) }
 {
     let mut disks = Vec::new(alloc);
     disks.push(MemDisk::new(alloc, &[])?)?;
-    disks.push(MemDisk::new(alloc, &[])?)?;
+    disks.push(MemDisk::new(alloc, failing)?)?;
     Ok(disks)
 }
 
-/// Two streams, just created for the workload.
-pub fn created(alloc: Global, load: &Workload) -> Result<Vec<Writer<MemDisk>>, Fail>
+/// Two streams, just created for the workload. The calls of the second one's disk with these numbers fail.
+pub fn created(
+    alloc: Global,
+    load: &Workload,
+    failing: &[u32],
+) -> Result<Vec<Writer<MemDisk>>, Fail>
     ensures count { IfOk result (λ writers. vec_len writers ≡ 2) }
     ensures text { OnOk result (length (declarations_text load.now.declarations) ≤ MAX_CATALOGUE) }
     ensures fresh { IfOk result (λ writers. AreNew One (λ j. catalogue_of load.now) writers.items) }
 {
-    let mut disks = two_disks(alloc)?;
+    let mut disks = two_disks(alloc, failing)?;
     let catalogue = match print_declarations(alloc, &load.declarations) {
         Ok(catalogue) => catalogue,
         Err(error) => return Err(error.into()),
@@ -94,7 +98,7 @@ fn told_of(alloc: Global, text: &[u8], m: u8) -> Result<Vec<u8>, Fail>
         Ok(load) => load,
         Err(_) => return Err("the text".into()),
     };
-    let mut writers = match created(alloc, &load) {
+    let mut writers = match created(alloc, &load, &[]) {
         Ok(writers) => writers,
         Err(fail) => return Err(fail),
     };
@@ -147,7 +151,7 @@ fn from_an_opening(rt: HostRuntime) -> Result<(), Fail> {
         Ok(load) => load,
         Err(_) => panic!(rt; "the text"),
     };
-    let mut writers = match created(alloc, &load) {
+    let mut writers = match created(alloc, &load, &[]) {
         Ok(writers) => writers,
         Err(fail) => return Err(fail),
     };
