@@ -1,5 +1,5 @@
 -- Whole turns of optimistic workers, after which what they have peeked fits their calls again.
-use Rattle.std.proofs.Common.{ℕ, ◌+◌, ◌<◌, ◌≤◌, ◌≡◌, ◌⊎◌, inl, inr, Bool, true, false, List, [], ◌∷◌, ◌++◌, refl, sym, ap, subst, ◌∙◌, Option, length, arith, lt-ltb}
+use Rattle.std.proofs.Common.{ℕ, ◌<◌, ◌≤◌, ◌≡◌, ◌⊎◌, inl, inr, Bool, true, false, List, [], ◌∷◌, ◌++◌, refl, sym, ap, subst, ◌∙◌, Option, length, arith, lt-ltb}
 use Rattle.std.specs.Prelude.{Some, None, is_some, not, nat_lt, ◌&&◌, ◌||◌, ◌-◌, slice_get, IsTrue, Ok}
 use Rattle.std.proofs.lemmas.Bool.{cases_Bool}
 use Rattle.tau_base.specs.declared.limits.TheConstants.{MAX_CALLS, MAX_STEPS}
