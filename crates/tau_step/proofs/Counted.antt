@@ -18,7 +18,7 @@ use Rattle.tau_run.specs.Turns.{Progress}
 use Rattle.tau_step.specs.declared.manager.Managing.{Managing}
 use Rattle.tau_step.specs.declared.manager.Managing.TheVariants as did
 use Rattle.tau_step.specs.Counts.{CountsTo, HasFlushed, IsHalfFlushed, MayHalve, calls_to_flush, flushed_in, flushes_by, flushes_of}
-use Rattle.tau_step.specs.Device.{flushed_by_turn}
+use Rattle.tau_step.proofs.TurnNotes.{flushed_by_turn}
 use Rattle.tau_base.proofs.Logic.{not_both}
 
 module _ {D : Type 0} (G : Ghosts D) where

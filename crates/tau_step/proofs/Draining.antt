@@ -14,8 +14,8 @@ use Rattle.tau_step.proofs.ToSteps.{drain_cut}
 use Rattle.tau_step.specs.declared.manager.Managing.TheVariants as did
 use Rattle.tau_step.specs.declared.run.Run.{Run}
 use Rattle.tau_step.specs.RunEffects.{IsOn, Manages, Moves}
-use Rattle.tau_step.specs.Progressed.{progress}
-use Rattle.tau_step.specs.Rounding.{keeps, managed_by, flushed_by, idled, idled_below, all_idled, clerked, drained}
+use Rattle.tau_step.specs.Progressed.{progress, clerks}
+use Rattle.tau_step.specs.Rounding.{keeps, managed_by, flushed_by, idled, idled_below, all_idled, drained}
 use Rattle.tau_step.proofs.RunSteps.{kept_after, went_on}
 use Rattle.tau_step.specs.Device.{noting}
 use Rattle.tau_step.proofs.Silent.{false_not}
@@ -113,9 +113,9 @@ module _ {D : Type 0} {G : Ghosts D} (seen_now : (d : D) → G.tells → G.may_l
   }
 
   module _ (hears : Type 0) where
-    pub drain_whole : (whole : Bool) (old mid new : Run) (ws ms : List (Writer D G)) (held held' : List ℕ) (faults faults' : ℕ) → Manages all_idled true old mid ws ms → Moves clerked whole mid new ms ms hears held held' faults faults' → Moves drained whole old new ws ms hears held held' faults faults'
+    pub drain_whole : (whole : Bool) (old mid new : Run) (ws ms : List (Writer D G)) (held held' : List ℕ) (faults faults' : ℕ) → Manages all_idled true old mid ws ms → Moves clerks whole mid new ms ms hears held held' faults faults' → Moves drained whole old new ws ms hears held held' faults faults'
     drain_whole whole old mid new ws ms held held' faults faults' x y =
-        moves_on seen_now hears all_idled clerked drained whole old mid new ws ms ms held held held' faults faults faults'
+        moves_on seen_now hears all_idled clerks drained whole old mid new ws ms ms held held held' faults faults faults'
         (λ l P Q P' p q. kept_both (map Drain (below l.streams)) (Word turn.Clerk ∷ []) whole l P Q P' p (word_kept turn.Clerk tt whole l Q P' q)) (manages_moves seen_now hears all_idled true old mid ws ms held faults x) y
 
     pub drain_managers : (old new : Run) (ws ws' : List (Writer D G)) (held : List ℕ) (faults : ℕ) → Manages all_idled false old new ws ws' → Moves drained false old new ws ws' hears held held faults faults

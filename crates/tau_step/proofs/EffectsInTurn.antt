@@ -25,7 +25,6 @@ use Rattle.tau_step.specs.Along.{Quiet, AreKept, IsAlong, Went, Silent}
 use Rattle.tau_step.specs.Device.{IsNoted, noting}
 use Rattle.tau_step.specs.RunEffects.{IsOn, Works, Manages, Moves, WentBy}
 use Rattle.tau_step.specs.Progressed.{progress, clerks}
-use Rattle.tau_step.specs.Rounding.{clerked}
 use Rattle.tau_step.specs.Telling.{Passed}
 use Rattle.tau_step.proofs.RunSteps.{kept_after, went_quiet, went_on, went_as, since_none, rose_on}
 use Rattle.tau_step.proofs.Counted.{counts_none}
@@ -283,11 +282,11 @@ module _ {D : Type 0} {G : Ghosts D} (seen_now : (d : D) → G.tells → G.may_l
       abbrev Clears : {A : Type 0} → Result A NoMemory → Type 0
       Clears r = (K : List (Act Txn)) (h : Hidden) (es : List machine.Event) → Stands old.core K h → Passed clerks old.core new.core old.clerk.acks new.clerk.acks old.clerk.sink_failed new.clerk.sink_failed hears held held' K h es r
 
-      quiet : (whole : Bool) (l : Load) (P P' : Progress) → clerked whole l P P' → Quiet P.state P'.state
+      quiet : (whole : Bool) (l : Load) (P P' : Progress) → clerks whole l P P' → Quiet P.state P'.state
       quiet whole l P P' q = record { grown = clerked_grows (setting_of l) l.workers l.streams P P' whole q; same = λ i. clerked_same (setting_of l) l.workers l.streams P P' i whole q }
 
       pub clerk_moves : (A : Type 0) (r : Result A NoMemory) → Clears r → OnOk r (hears → (from : List ℕ) → Heard from old.clerk.acks old.clerk.sink_failed held → Heard from new.clerk.acks new.clerk.sink_failed held') →
-          Moves clerked (is_ok r) old new ws ws hears held held' faults faults'
+          Moves clerks (is_ok r) old new ws ws hears held held' faults faults'
       clerk_moves A (Ok a) passed heard = record {
         went = went;
         heard = λ e. heard;
@@ -303,7 +302,7 @@ module _ {D : Type 0} {G : Ghosts D} (seen_now : (d : D) → G.tells → G.may_l
                 order = w.order;
                 hidden = w.hidden;
                 stands = w.stands;
-                kept = kept_after seen_now a.bases (noting old.flushes new.flushes clerked) old.core new.core ws ws old.clerk.acks new.clerk.acks a.order a.hidden [] a.kept w;
+                kept = kept_after seen_now a.bases (noting old.flushes new.flushes clerks) old.core new.core ws ws old.clerk.acks new.clerk.acks a.order a.hidden [] a.kept w;
                 lowest = subst (λ (f : Option ℕ). NamesLowest new.core.load.streams (stops_in (core_of new.core w.hidden)) f) (sym failed)
                     (subst (λ (l : Load). NamesLowest l.streams (stops_in (core_of new.core w.hidden)) old.failed) (sym load)
                     (lowest_same old.core.load.streams (core_of old.core a.hidden) (core_of new.core w.hidden) (λ j. (q.same j).stop) old.failed a.lowest));
@@ -313,12 +312,12 @@ module _ {D : Type 0} {G : Ghosts D} (seen_now : (d : D) → G.tells → G.may_l
             });
       }
         where
-          went : (bases : ℕ → List ℕ) (K : List (Act Txn)) (h : Hidden) (es : List machine.Event) → Stands old.core K h → AreKept bases ws old.core h → Went bases (noting old.flushes new.flushes clerked) true old.core new.core ws ws old.clerk.acks new.clerk.acks K h es
+          went : (bases : ℕ → List ℕ) (K : List (Act Txn)) (h : Hidden) (es : List machine.Event) → Stands old.core K h → AreKept bases ws old.core h → Went bases (noting old.flushes new.flushes clerks) true old.core new.core ws ws old.clerk.acks new.clerk.acks K h es
           went bases K h es g k =
               let c = passed K h es g in
               let P = progress old.core h es K old.clerk.acks in
               let P' = progress new.core c.hidden c.events c.order new.clerk.acks in
-              went_quiet seen_now bases (noting old.flushes new.flushes clerked) true old.core new.core ws old.clerk.acks new.clerk.acks K h es k (record {
+              went_quiet seen_now bases (noting old.flushes new.flushes clerks) true old.core new.core ws old.clerk.acks new.clerk.acks K h es k (record {
                 hidden = c.hidden;
                 order = c.order;
                 events = c.events;
@@ -331,7 +330,7 @@ module _ {D : Type 0} {G : Ghosts D} (seen_now : (d : D) → G.tells → G.may_l
         went = λ bases K h es g k. (let t = passed K h es g in let c = t.comes in
             record {
               told_now = t.told;
-              went = went_quiet seen_now bases clerked false old.core new.core ws old.clerk.acks t.told K h es k c (quiet false old.core.load (progress old.core h es K old.clerk.acks) (progress new.core c.hidden c.events c.order t.told) c.moved) (λ e. absurd (let bad : false ≡ true = e in cc));
+              went = went_quiet seen_now bases clerks false old.core new.core ws old.clerk.acks t.told K h es k c (quiet false old.core.load (progress old.core h es K old.clerk.acks) (progress new.core c.hidden c.events c.order t.told) c.moved) (λ e. absurd (let bad : false ≡ true = e in cc));
               count = t.count;
               heard = t.heard;
             });

@@ -10,7 +10,8 @@ use Rattle.tau_machine.specs.State.{Setting, Item, Anchor, Stream, Core, past_of
 use Rattle.tau_machine.specs.Events.{Event, Lock, Busy, Quit, Commit, Post, Free, FirstFree, Done, DoneReading, Drop, Gather, PlaceAnchor, Persist, Ack, Stop, Resume, Leads, Gathered, stop, record_first, anchor_first, GathersRecord, GathersAnchor}
 use Rattle.tau_machine.proofs.At.{at_same, at_other}
 use Rattle.tau_core.proofs.AnchorNames as more
-use Rattle.tau_step.specs.Along.{Grows, SameAt, Spares}
+use Rattle.tau_step.specs.Along.{Grows, SameAt}
+use Rattle.tau_step.proofs.Spared.{Spares}
 use Rattle.tau_base.proofs.Lists.{got_front}
 
 -- items and anchors of each stream are those of before and more

@@ -9,9 +9,7 @@ mod OneByOne
 mod ToSteps
 mod Scheduled
 mod AnchorsDropped
-pub mod Bodies
 mod Images
-pub mod Flushing
 mod Handing
 mod NothingNew
 mod Gathering
@@ -45,7 +43,6 @@ mod Staged
 mod LeftOvers
 mod Short
 mod Ending
-pub mod Begun
 mod Silent
 mod Noting
 mod Ordered
@@ -53,3 +50,9 @@ mod PeekTurns
 mod OptimistTurns
 mod StyleFits
 mod StyleRuns
+pub mod Begun
+pub mod Bodies
+pub mod Flushing
+pub mod PartsOfPasses
+pub mod Spared
+pub mod TurnNotes

@@ -30,7 +30,8 @@ use Rattle.tau_step.proofs.RunSteps.{went_as, kept_after}
 use Rattle.tau_step.proofs.Idling.{managed_ends, none_some}
 use Rattle.tau_step.proofs.Kept.{kept_leaving}
 use Rattle.tau_step.proofs.Managers.{manager_went}
-use Rattle.tau_step.specs.Device.{NotesTurn, managed_flushing, noting}
+use Rattle.tau_step.specs.Device.{noting}
+use Rattle.tau_step.proofs.TurnNotes.{NotesTurn, managed_flushing}
 use Rattle.tau_step.proofs.Silent.{false_not}
 use Rattle.tau_step.proofs.EffectsInTurn.{manages_as, manages_none, noted_same}
 use Rattle.tau_step.proofs.Others.{managed_workers}

@@ -29,7 +29,7 @@ use Rattle.tau_step.specs.Along.{IsLeaving, Since, AreKept, Went}
 use Rattle.tau_step.specs.Keeping.{IsKept, ManagerTurns, ManagerStops, ManagerTurned}
 use Rattle.tau_step.specs.Progressed.{progress}
 use Rattle.tau_step.specs.Counts.{CountsTo, flushes_by}
-use Rattle.tau_step.specs.Device.{managed_flushing}
+use Rattle.tau_step.proofs.TurnNotes.{managed_flushing}
 use Rattle.tau_step.proofs.Counted.{counts_spared, turn_counts, turn_spares}
 use Rattle.tau_step.proofs.Calls.{calls_none}
 use Rattle.tau_step.proofs.RunSteps.{since_none}

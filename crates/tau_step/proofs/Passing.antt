@@ -10,7 +10,8 @@ use Rattle.tau_core.specs.Stands.{Stands}
 use Rattle.tau_run.specs.Run.{below}
 use Rattle.tau_run.specs.Turns.{Progress}
 use Rattle.tau_step.specs.TurnParts.{Cleared, DropOf, OneByOne, next}
-use Rattle.tau_step.specs.Progressed.{progress, Comes, stays, tells, clears, clears_on, clerks, clerks_below, drops_below, drops_one}
+use Rattle.tau_step.specs.Progressed.{progress, Comes, stays, tells, clears, clerks, drops_one}
+use Rattle.tau_step.proofs.PartsOfPasses.{clears_on, clerks_below, drops_below}
 use Rattle.tau_step.proofs.OneByOne.{one_more, one_cut, below_split}
 use Rattle.tau_step.proofs.Joined.{comes_none, comes_as, comes_on}
 

@@ -26,8 +26,8 @@ use Rattle.tau_step.specs.declared.run.Run.{Run}
 use Rattle.tau_step.specs.Along.{Quiet, Silent}
 use Rattle.tau_step.specs.Optimists.{AreFit, Peeks, all_turns_left, peeks_of}
 use Rattle.tau_step.specs.RunEffects.{IsOn, SameWorkers, Works, Manages, Moves, rests_in}
-use Rattle.tau_step.specs.Progressed.{progress}
-use Rattle.tau_step.specs.Rounding.{managed, Rounded, any_now, becomes, none_peeked, of_managers, worked_by, rounded_by, round_by, in_rounds, managed_by, managed_below, all_managed, clerked, rest_of_round}
+use Rattle.tau_step.specs.Progressed.{progress, clerks}
+use Rattle.tau_step.specs.Rounding.{managed, Rounded, any_now, becomes, none_peeked, of_managers, worked_by, rounded_by, round_by, in_rounds, managed_by, managed_below, all_managed, rest_of_round}
 use Rattle.tau_step.proofs.RunSteps.{kept_after, went_on}
 use Rattle.tau_step.specs.Device.{noting}
 use Rattle.tau_step.proofs.Silent.{false_not}
@@ -180,9 +180,9 @@ module _ {D : Type 0} {G : Ghosts D} (seen_now : (d : D) → G.tells → G.may_l
 
   module _ (hears : Type 0) where
     -- the managers, and the clerk
-    pub rest_clerk : (whole : Bool) (old mid new : Run) (ws ms : List (Writer D G)) (held held' : List ℕ) (faults faults' : ℕ) → Manages all_managed true old mid ws ms → Moves clerked whole mid new ms ms hears held held' faults faults' → Moves rest_of_round whole old new ws ms hears held held' faults faults'
+    pub rest_clerk : (whole : Bool) (old mid new : Run) (ws ms : List (Writer D G)) (held held' : List ℕ) (faults faults' : ℕ) → Manages all_managed true old mid ws ms → Moves clerks whole mid new ms ms hears held held' faults faults' → Moves rest_of_round whole old new ws ms hears held held' faults faults'
     rest_clerk whole old mid new ws ms held held' faults faults' x y =
-        moves_on seen_now hears all_managed clerked rest_of_round whole old mid new ws ms ms held held held' faults faults faults'
+        moves_on seen_now hears all_managed clerks rest_of_round whole old mid new ws ms ms held held held' faults faults faults'
         (λ l P Q P' p q. kept_both (of_managers (below l.streams)) (Word turn.Clerk ∷ []) whole l P Q P' p (word_kept turn.Clerk tt whole l Q P' q)) (manages_moves seen_now hears all_managed true old mid ws ms held faults x) y
 
     pub rest_managers : (old new : Run) (ws ws' : List (Writer D G)) (held : List ℕ) (faults : ℕ) → Manages all_managed false old new ws ws' → Moves rest_of_round false old new ws ws' hears held held faults faults

@@ -14,7 +14,8 @@ use Rattle.tau_run.specs.Turns.{Progress, Stays, IsOwn, Goes, is_going}
 use Rattle.tau_step.specs.TurnParts.{has_work, Worked, Cleared, OneByOne, DropOf, AnchoredPart}
 use Rattle.tau_step.specs.Along.{Silent}
 use Rattle.tau_step.specs.Counts.{flushed_by_event, flushed_in}
-use Rattle.tau_step.specs.Rounding.{turned, clerked}
+use Rattle.tau_step.specs.Rounding.{turned}
+use Rattle.tau_step.specs.Progressed.{clerks}
 use Rattle.tau_step.proofs.Turning.{if_either}
 
 -- one event more
@@ -86,6 +87,6 @@ pub removal_silent : (whole : Bool) (l : Load) (P P' : Progress) → whole ≡ t
 removal_silent true l P P' e h = dropped_silent (setting_of l) l.workers l.streams (below SHARDS) P P' h
 removal_silent false l P P' e h = false_not e
 
-pub clerked_silent : (whole : Bool) (l : Load) (P P' : Progress) → whole ≡ true → clerked whole l P P' → Silent P P'
+pub clerked_silent : (whole : Bool) (l : Load) (P P' : Progress) → whole ≡ true → clerks whole l P P' → Silent P P'
 clerked_silent true l P P' e h = passed_silent (setting_of l) l.workers l.streams (below l.workers) P P' h
 clerked_silent false l P P' e h = false_not e

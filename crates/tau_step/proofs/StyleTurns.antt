@@ -13,7 +13,8 @@ use Rattle.tau_occ.specs.declared.style.Style.TheVariants.{Locking, Optimistic}
 use Rattle.tau_run.specs.Turns.{Progress, IfSo, IsOwn, Goes, is_raised, is_empty}
 use Rattle.tau_run.specs.Schedule.{RunState, peeked, TakesTurn, has_turn, peeks_after}
 use Rattle.tau_run.proofs.Steps.{if_known}
-use Rattle.tau_step.specs.Along.{Quiet, Silent, Spares}
+use Rattle.tau_step.specs.Along.{Quiet, Silent}
+use Rattle.tau_step.proofs.Spared.{Spares}
 use Rattle.tau_step.specs.Optimists.{Peeks, turns_left}
 use Rattle.tau_step.specs.Remains.{worker_left}
 use Rattle.tau_step.proofs.Falling.{HasTries, own_falls}

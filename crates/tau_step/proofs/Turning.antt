@@ -9,7 +9,8 @@ use Rattle.tau_machine.specs.Events.{Event, Lock, Busy, Quit, Commit, Post, Free
 use Rattle.tau_run.specs.Run.{below}
 use Rattle.tau_run.specs.Turns.{Progress, Stays, IfSo, IsOwn, Goes, is_going, Flushed}
 use Rattle.tau_step.specs.TurnParts.{has_work, Worked, Cleared, OneByOne, Clerked, DropOf, ManagedPart, WorkedPart, AnchoredPart}
-use Rattle.tau_step.specs.Along.{Grows, SameAt, Spares}
+use Rattle.tau_step.specs.Along.{Grows, SameAt}
+use Rattle.tau_step.proofs.Spared.{Spares}
 use Rattle.tau_step.proofs.Growing.{grows_none, grows_on, grows, same_none, same_on, spared}
 
 pub if_either : (b : Bool) (A B R : Type 0) → IfSo b A B → (A → R) → (B → R) → R

@@ -17,7 +17,8 @@ use Rattle.tau_step.proofs.ToSteps.{IsOther}
 use Rattle.tau_step.specs.declared.run.Run.{Run}
 use Rattle.tau_step.specs.Along.{Quiet, Silent}
 use Rattle.tau_step.specs.RunEffects.{IsOn, Works, Manages, Moves}
-use Rattle.tau_step.specs.Rounding.{becomes, leaves, ran, kept, worker_turned, clerked, turned, turned_all}
+use Rattle.tau_step.specs.Rounding.{becomes, leaves, ran, kept, worker_turned, turned, turned_all}
+use Rattle.tau_step.specs.Progressed.{clerks}
 use Rattle.tau_step.proofs.EffectsInTurn.{works_manages, manages_moves, moves_on, moves_as}
 use Rattle.tau_step.proofs.RoundSteps.{worker_quiet, worker_silent}
 use Rattle.tau_step.proofs.Scheduled.{left_after}
@@ -50,9 +51,9 @@ module _ {D : Type 0} {G : Ghosts D} (seen_now : (d : D) → G.tells → G.may_l
       Works (turned t') whole old new → Moves (ran style f f (Word t ∷ [])) whole old new ws ws hears held held faults faults
   word_moves t t' other whole old new ws held faults e on quiet silent x = manager_moves t t' other whole old new ws ws held faults e (works_manages seen_now (turned t') whole old new ws on quiet silent x)
 
-  pub clerk_word : (t : Turn) (whole : Bool) (old new : Run) (ws : List (Writer D G)) (held held' : List ℕ) (faults faults' : ℕ) → t ≡ turn.Clerk → Moves clerked whole old new ws ws hears held held' faults faults' → Moves (ran style f f (Word t ∷ [])) whole old new ws ws hears held held' faults faults'
+  pub clerk_word : (t : Turn) (whole : Bool) (old new : Run) (ws : List (Writer D G)) (held held' : List ℕ) (faults faults' : ℕ) → t ≡ turn.Clerk → Moves clerks whole old new ws ws hears held held' faults faults' → Moves (ran style f f (Word t ∷ [])) whole old new ws ws hears held held' faults faults'
   clerk_word t whole old new ws held held' faults faults' e x = subst (λ (u : Turn). Moves (ran style f f (Word u ∷ [])) whole old new ws ws hears held held' faults faults') (sym e)
-      (moves_as seen_now hears clerked (ran style f f (Word turn.Clerk ∷ [])) whole old new ws ws held held' faults faults' (λ l P P' q. word_kept turn.Clerk tt whole l P P' q style f) x)
+      (moves_as seen_now hears clerks (ran style f f (Word turn.Clerk ∷ [])) whole old new ws ws held held' faults faults' (λ l P P' q. word_kept turn.Clerk tt whole l P P' q style f) x)
 
 module _ {D : Type 0} {G : Ghosts D} (seen_now : (d : D) → G.tells → G.may_leave d (G.seen d)) (hears : Type 0) (style : Style) where
   -- a turn word of a worker

@@ -10,7 +10,7 @@ use Rattle.tau_stream.specs.Writer.{disk_of, has_failed}
 use Rattle.tau_model.specs.History.{Act}
 use Rattle.tau_machine.specs.Hands.{Txn}
 use Rattle.tau_machine.specs.State.{Item, Core}
-use Rattle.tau_machine.specs.Events.{Event, Gather, Persist, Stop}
+use Rattle.tau_machine.specs.Events.{Event}
 use Rattle.tau_core.specs.declared.state.Load.{Load}
 use Rattle.tau_core.specs.State.{Plain}
 use Rattle.tau_core.specs.View.{Hidden, core_of}
@@ -42,13 +42,6 @@ Silent P P' = flushed_in P'.events ≡ flushed_in P.events
 pub record Quiet (s s' : Core) : Type 0 where
   pub grown : Grows s s'
   pub same : (i : ℕ) → SameAt i s s'
-
--- the event is none of the manager of this stream
-abbrev pub Spares : ℕ → Event → Type 0
-Spares i (Gather j) = i ≡ j → ⊥
-Spares i (Persist j upto) = i ≡ j → ⊥
-Spares i (Stop j upto) = i ≡ j → ⊥
-Spares i _ = Unit {0}
 
 module _ {D : Type 0} {G : Ghosts D} (j : ℕ) (base : List ℕ) where
   -- Whatever a stop now may leave reaches what is persisted, and no more in one image; the stream is stopped exactly where the disk failed.

@@ -1,8 +1,7 @@
 -- The order in which a run calls its disks.
-use Rattle.std.specs.Prelude.{ℕ, ◌≡◌, Bool, true, List, [], ◌∷◌, ◌++◌, replicate, Option, None, Result, Ok, Err}
+use Rattle.std.specs.Prelude.{ℕ, ◌≡◌, Bool, true, List, [], ◌∷◌, ◌++◌, replicate, Option, None}
 use Rattle.std.specs.List.{flat_map}
 use Rattle.tau_base.specs.declared.value.LogMode.{LogMode}
-use Rattle.tau_base.specs.declared.value.NoMemory.{NoMemory}
 use Rattle.tau_machine.specs.Events.{Event}
 use Rattle.tau_text.specs.declared.load.Workload.{Workload}
 use Rattle.tau_core.specs.declared.state.Load.{Load}
@@ -13,10 +12,7 @@ use Rattle.tau_run.specs.RunFacts.{by_turns, IsCoreRun}
 use Rattle.tau_run.specs.Start.{fresh_start}
 use Rattle.tau_run.specs.Turns.{Progress}
 use Rattle.tau_step.specs.declared.flushes.Flushes.{Flushes}
-use Rattle.tau_step.specs.declared.manager.Managing.{Managing}
-use Rattle.tau_step.specs.declared.manager.Managing.TheVariants as did
 use Rattle.tau_step.specs.Counts.{calls_to_flush, flushed_in}
-use Rattle.tau_step.specs.Rounding.{managed_by}
 
 -- what is noted are the flushes of these events, where they are noted
 abbrev pub IsNoted : Flushes → List Event → Type 0
@@ -29,20 +25,6 @@ noting flushes flushes' R whole l P P' = R whole l P P' × (whole ≡ true → I
 -- one flush of the stream more
 abbrev pub NotesFlush : ℕ → Flushes → Flushes → Type 0
 NotesFlush j old new = new.noted ≡ true → (old.noted ≡ true) × (new.streams ≡ old.streams ++ j ∷ [])
-
--- what the turn of a manager flushes
-abbrev pub flushed_by_turn : ℕ → Result Managing NoMemory → Progress → Progress → Type 0
-flushed_by_turn j (Ok did.Flushed) P P' = flushed_in P'.events ≡ flushed_in P.events ++ j ∷ []
-flushed_by_turn j (Ok other) P P' = flushed_in P'.events ≡ flushed_in P.events
-flushed_by_turn j (Err e) P P' = Unit {0}
-
-abbrev pub managed_flushing : ℕ → Result Managing NoMemory → Bool → Load → Progress → Progress → Type 0
-managed_flushing j r whole l P P' = managed_by j r whole l P P' × flushed_by_turn j r P P'
-
--- and what is noted of it
-abbrev pub NotesTurn : ℕ → Result Managing NoMemory → Flushes → Flushes → Type 0
-NotesTurn j (Ok did.Flushed) old new = NotesFlush j old new
-NotesTurn j other old new = new ≡ old
 
 -- The stream of each disk call of a run by n streams that has these flushes, and in which none stops: each is asked its
 -- length, each is made, and then come the flushes.

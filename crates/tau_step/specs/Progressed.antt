@@ -39,19 +39,8 @@ tells w l P P' = Tells (setting_of l) l.workers l.streams w P P'
 abbrev pub clears : ℕ → Bool → Load → Progress → Progress → Type 0
 clears w whole l P P' = Cleared (setting_of l) l.workers l.streams w whole P P'
 
--- after what happened the pass over the worker goes on
-abbrev pub clears_on : ℕ → Load → Progress → Progress → Type 0
-clears_on w l P P' = (whole : Bool) (Q : Progress) → clears w whole l P' Q → clears w whole l P Q
-
 abbrev pub clerks : Bool → Load → Progress → Progress → Type 0
 clerks whole l P P' = Clerked (setting_of l) l.workers l.streams whole P P'
-
--- the first of the workers, so many, are done
-abbrev pub clerks_below : ℕ → Load → Progress → Progress → Type 0
-clerks_below i l P P' = OneByOne (setting_of l) l.workers l.streams (λ b w. Cleared (setting_of l) l.workers l.streams w b) true (below i) P P'
-
-abbrev pub drops_below : ℕ → Load → Progress → Progress → Type 0
-drops_below i l P P' = OneByOne (setting_of l) l.workers l.streams (DropOf (setting_of l) l.workers l.streams) true (below i) P P'
 
 abbrev pub drops_one : ℕ → Load → Progress → Progress → Type 0
 drops_one i l P P' = DropOf (setting_of l) l.workers l.streams true i P P'

@@ -9,7 +9,7 @@ use Rattle.tau_core.specs.declared.state.Load.{Load}
 use Rattle.tau_core.specs.View.{setting_of}
 use Rattle.tau_run.specs.Run.{below}
 use Rattle.tau_run.specs.Turns.{Progress, Stays}
-use Rattle.tau_step.specs.TurnParts.{Worked, Turned, ManagedPart, Clerked, has_work}
+use Rattle.tau_step.specs.TurnParts.{Worked, Turned, ManagedPart, has_work}
 use Rattle.tau_run.specs.Schedule.{Todo, Word, Rounds, LeftOver, Alone, Drain, peeked, has_turn, any_turn, Leaves, Began, todos_of}
 use Rattle.tau_step.specs.Along.{Quiet, Silent}
 use Rattle.tau_step.specs.Optimists.{Peeks, turned_in}
@@ -92,9 +92,6 @@ turned t whole l P P' = Turned (setting_of l) l.workers l.streams whole t P P'
 
 abbrev pub managed : ℕ → Bool → Load → Progress → Progress → Type 0
 managed j whole l P P' = ManagedPart (setting_of l) l.workers l.streams whole j P P'
-
-abbrev pub clerked : Bool → Load → Progress → Progress → Type 0
-clerked whole l P P' = Clerked (setting_of l) l.workers l.streams whole P P'
 
 -- the turn words
 abbrev pub turned_all : Style → Peeks → Peeks → List Turn → Bool → Load → Progress → Progress → Type 0

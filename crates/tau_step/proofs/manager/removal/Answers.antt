@@ -1,6 +1,7 @@
 use Rattle.std.proofs.Common.{ℕ, ◌+◌, ◌≡◌, subst, arith}
 use Rattle.tau_base.specs.declared.limits.TheConstants.{SHARDS}
-use Rattle.tau_step.specs.Progressed.{Comes, drops_below}
+use Rattle.tau_step.specs.Progressed.{Comes}
+use Rattle.tau_step.proofs.PartsOfPasses.{drops_below}
 use Rattle.tau_step.proofs.Passing.{drops_none, drops_more}
 use Rattle.tau_step.proofs.manager.removal.Goals as goal
 

@@ -4,7 +4,8 @@ use Rattle.tau_machine.specs.Hands.{Txn}
 use Rattle.tau_machine.specs.Events as machine
 use Rattle.tau_core.specs.View.{Hidden}
 use Rattle.tau_core.specs.Stands.{Stands}
-use Rattle.tau_step.specs.Progressed.{Comes, drops_below}
+use Rattle.tau_step.specs.Progressed.{Comes}
+use Rattle.tau_step.proofs.PartsOfPasses.{drops_below}
 use Rattle.tau_step.proofs.manager.removal.Given as goal
 
 abbrev pub invariant-loop-shard : goal.invariant-loop-shard

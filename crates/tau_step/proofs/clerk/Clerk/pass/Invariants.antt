@@ -6,7 +6,8 @@ use Rattle.tau_machine.specs.Events as machine
 use Rattle.tau_core.specs.View.{Hidden}
 use Rattle.tau_core.specs.Stands.{Stands, Stood}
 use Rattle.tau_run.specs.Heard.{Heard}
-use Rattle.tau_step.specs.Progressed.{Comes, clerks_below}
+use Rattle.tau_step.specs.Progressed.{Comes}
+use Rattle.tau_step.proofs.PartsOfPasses.{clerks_below}
 use Rattle.tau_step.proofs.clerk.Clerk.pass.Given as goal
 
 abbrev pub invariant-loop-worker : goal.invariant-loop-worker

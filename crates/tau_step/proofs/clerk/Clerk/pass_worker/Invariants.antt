@@ -6,7 +6,8 @@ use Rattle.tau_machine.specs.Events as machine
 use Rattle.tau_core.specs.View.{Hidden}
 use Rattle.tau_core.specs.Stands.{Stands, Stood}
 use Rattle.tau_run.specs.Heard.{Heard}
-use Rattle.tau_step.specs.Progressed.{Comes, clears_on}
+use Rattle.tau_step.specs.Progressed.{Comes}
+use Rattle.tau_step.proofs.PartsOfPasses.{clears_on}
 use Rattle.tau_step.specs.Telling.{waiting_of}
 use Rattle.tau_step.proofs.clerk.Clerk.pass_worker.Given as goal
 
