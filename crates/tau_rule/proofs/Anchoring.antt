@@ -15,6 +15,7 @@ use Rattle.tau_core.specs.State.{Plain}
 use Rattle.tau_core.specs.View.{setting_of}
 use Rattle.tau_rule.specs.Role.{Share, Working, Managing, Clerking, Role}
 use Rattle.tau_core.specs.Pieces.{Names, AreBytesOf, IsPieceOf, Paired, Spelled}
+use Rattle.tau_occ.specs.declared.style.Style.{Style}
 use Rattle.tau_rule.specs.Knows.{Knows}
 use Rattle.tau_rule.specs.Rule.{Now, Rule, IsPart, IsShare, IsManaged, IsRole, Sees, Meets, MAX_ANCHOR, anchors_at, word_of, hand_of, has, part_count, manager_role, LONGEST}
 use Rattle.tau_rule.specs.Steps.{Sat}
@@ -22,7 +23,7 @@ use Rattle.tau_rule.specs.Places.{got_place}
 use Rattle.tau_rule.specs.Anchoring.{anchored, anchored_view, IsToAnchor}
 use Rattle.tau_rule.specs.declared.part.Part.{Part}
 use Rattle.tau_rule.specs.declared.part.Part.TheVariants as part
-use Rattle.tau_rule.proofs.Turns.{reached_invariant, Turn, reached_on, one_role, role_alone, alone}
+use Rattle.tau_rule.proofs.Turns.{reached_invariant, Turn, reached_on, stored_on, one_role, role_alone, alone}
 use Rattle.tau_rule.proofs.Numbers.{few_joined}
 use Rattle.tau_rule.proofs.Boxes.{paired_snoc}
 use Rattle.tau_rule.proofs.Placing.{word_alloc, word_other, room}
@@ -66,13 +67,14 @@ module _ (origin : Plain) (j : ℕ) (m : Sat) (bytes : List ℕ) (p : IsToAnchor
     core = record (with_stream c.core j (str_then c)) { ends = slice_set c.core.ends j (slice_index c.core.ends j + length bytes) };
     raised = c.raised;
     spare = c.spare;
+    stored = c.stored;
   }
 
-  module _ (c : Now) (meets : Meets origin c) (mine : IsRole origin.load (manager_role origin.load j) role c) (sees : Sees origin c m.0) where
-    managed_is : IsManaged origin.load j p.managed c.core
+  module _ {style : Style} (c : Now) (meets : Meets origin style c) (mine : IsRole origin.load (manager_role origin.load j) role c) (sees : Sees origin c m.0) where
+    managed_is : IsManaged origin.load j p.managed c
     managed_is =
-        let h = subst (λ (x : Share). IsShare origin.load (manager_role origin.load j) x c.core) p.is.share mine.0 in
-        subst (λ (i : ℕ). IsManaged origin.load i p.managed c.core) (let e = h.1 in omega arith) h.3
+        let h = subst (λ (x : Share). IsShare origin.load (manager_role origin.load j) x c) p.is.share mine.0 in
+        subst (λ (i : ℕ). IsManaged origin.load i p.managed c) (let e = h.1 in omega arith) h.3
 
     here : (then_anchored c).core.streams j ≡ str_then c
     here = at_same j (str_then c) c.core.streams
@@ -103,7 +105,7 @@ module _ (origin : Plain) (j : ℕ) (m : Sat) (bytes : List ℕ) (p : IsToAnchor
     parts_stay k (part.Outbox a b) h = (h.0, h.1, h.2, record { posted = paired_grow origin (anchors_at c.core) (anchors_at (then_anchored c).core) grown a.value.pieces (c.core.outboxes h.0).posted h.3.posted; pending = h.3.pending }, h.4, h.5)
     parts_stay k (part.Anchor number lv) h = (h.0, h.1, h.2, names_grow origin (anchors_at c.core) (anchors_at (then_anchored c).core) grown h.0 number lv.value h.3, h.4)
 
-    shares_stay : (u : ℕ) (x : Share) → (u ≡ manager_role origin.load j → ⊥) → IsShare origin.load u x c.core → IsShare origin.load u x (then_anchored c).core
+    shares_stay : (u : ℕ) (x : Share) → (u ≡ manager_role origin.load j → ⊥) → IsShare origin.load u x c → IsShare origin.load u x (then_anchored c)
     shares_stay u (Working x) apart h = h
     shares_stay u (Managing g) apart h =
         let other : h.0 ≡ j → ⊥ = (λ e. apart (h.1 ∙ ap (manager_role origin.load) e)) in
@@ -116,6 +118,7 @@ module _ (origin : Plain) (j : ℕ) (m : Sat) (bytes : List ℕ) (p : IsToAnchor
             gathered = h.3.gathered;
             anchors = ap (λ (x : Stream). x.anchors) same ∙ h.3.anchors;
             own = subst (λ (z : List Item). Paired (IsPieceOf origin.load (anchors_at (then_anchored c).core)) g.own z) (ap (λ (x : Stream). x.posted) (sym same)) (paired_grow origin (anchors_at c.core) (anchors_at (then_anchored c).core) grown g.own (c.core.streams h.0).posted h.3.own);
+            stored = h.3.stored;
           },
         )
     shares_stay u (Clerking acked) apart h = h
@@ -130,7 +133,7 @@ module _ (origin : Plain) (j : ℕ) (m : Sat) (bytes : List ℕ) (p : IsToAnchor
       found = h.found;
     }
 
-    anchor_managed : IsManaged origin.load j (anchored p.managed m.0.seen bytes (slice_index c.core.ends j)) (then_anchored c).core
+    anchor_managed : IsManaged origin.load j (anchored p.managed m.0.seen bytes (slice_index c.core.ends j)) (then_anchored c)
     anchor_managed = record {
       moved = subst (λ (z : List Item). Paired (IsPieceOf origin.load (anchors_at (then_anchored c).core)) p.managed.taken z) (ap (λ (x : Stream). x.moved) (sym here)) (paired_grow origin (anchors_at c.core) (anchors_at (then_anchored c).core) grown p.managed.taken (c.core.streams j).moved managed_is.moved);
       gathered = managed_is.gathered;
@@ -138,6 +141,7 @@ module _ (origin : Plain) (j : ℕ) (m : Sat) (bytes : List ℕ) (p : IsToAnchor
       own = subst (λ (z : List Item). Paired (IsPieceOf origin.load (anchors_at (then_anchored c).core)) (p.managed.own ++ record { start = slice_index c.core.ends j; bytes = bytes } ∷ []) z) (ap (λ (x : Stream). x.posted) (sym here))
           (paired_snoc (IsPieceOf origin.load (anchors_at (then_anchored c).core)) p.managed.own (c.core.streams j).posted (record { start = slice_index c.core.ends j; bytes = bytes }) (Anchor (slice_index c.core.ends j) (slice_index c.core.ends j + length bytes) m.0.seen)
           (paired_grow origin (anchors_at c.core) (anchors_at (then_anchored c).core) grown p.managed.own (c.core.streams j).posted managed_is.own) (record { start = refl; past = refl; bytes = p.spelled }));
+      stored = managed_is.stored;
     }
 
     few : length (c.core.streams j).anchors + 1 < 2 ^ 32
@@ -186,7 +190,7 @@ module _ (origin : Plain) (j : ℕ) (m : Sat) (bytes : List ℕ) (p : IsToAnchor
       | inr ne ↦ ap (λ (x : Stream). x.stop) (at_other j (str_then c) c.core.streams i ne) ∙ meets.going i
     ]
 
-    pub anchor_turn : Turn origin c (then_anchored c) (part_count origin.load) (manager_role origin.load j) (record role { share = Managing (anchored p.managed m.0.seen bytes (slice_index c.core.ends j)) })
+    pub anchor_turn : Turn origin style c (then_anchored c) (part_count origin.load) (manager_role origin.load j) (record role { share = Managing (anchored p.managed m.0.seen bytes (slice_index c.core.ends j)) })
     anchor_turn = record {
       parts = λ k q low apart h. parts_stay k q h;
       mine = ((j, refl, p.is.there, anchor_managed), mine.1, mine.2);
@@ -194,6 +198,7 @@ module _ (origin : Plain) (j : ℕ) (m : Sat) (bytes : List ℕ) (p : IsToAnchor
       sight = λ v lacks h. sees_stay v h;
       kept = record {
         reached = reached_on origin (PlaceAnchor j m.0.seen) c.core (then_anchored c).core [] meets.reached leads tt;
+        stored = stored_on c.stored meets.reached.events (PlaceAnchor j m.0.seen) meets.stored tt;
         going = no_stop;
         fits = fits_on;
         anchors = few_on;
@@ -206,19 +211,19 @@ module _ (origin : Plain) (j : ℕ) (m : Sat) (bytes : List ℕ) (p : IsToAnchor
     }
 
   -- the manager places an anchor that holds what it has seen
-  pub anchors : (id : ℕ) (st : Step (Option Part)) → st.first ≡ length bytes → Allows (Rule origin) (part_count origin.load) id m (8 * (part_count origin.load + j)) (λ n. (n + length bytes) % 2 ^ 64) (got_place (anchored_view origin.load j role p.managed bytes m.0) st m)
-  anchors id st first =
+  pub anchors : {style : Style} (id : ℕ) (st : Step (Option Part)) → st.first ≡ length bytes → Allows (Rule origin style) (part_count origin.load) id m (8 * (part_count origin.load + j)) (λ n. (n + length bytes) % 2 ^ 64) (got_place (anchored_view origin.load j role p.managed bytes m.0) st m)
+  anchors {style} id st first =
       let u : ℕ = manager_role origin.load j in
       let y : ℕ → Role = (λ (start : ℕ). record role { share = Managing (anchored p.managed m.0.seen bytes start) }) in
       let is : has u m.0 ≡ Some role = one_role m.0 u role p.is.roles in
-      words_step (IsPart origin.load) (IsRole origin.load) (word_of origin.load) hand_of has (Sees origin) (Meets origin) (part_count origin.load) (origin.load.streams + origin.load.streams + 1) id j m.0 m.1 u role (let a = p.is.there in omega arith) is
+      words_step (IsPart origin.load) (IsRole origin.load) (word_of origin.load) hand_of has (Sees origin) (Meets origin style) (part_count origin.load) (origin.load.streams + origin.load.streams + 1) id j m.0 m.1 u role (let a = p.is.there in omega arith) is
       (λ n. (n + length bytes) % 2 ^ 64) (anchored_view origin.load j role p.managed bytes m.0) y (λ start. refl) (λ start. role_alone u (y start)) (λ start k z h. alone u (y start) k z h)
       (λ c meets mine sees.
       let at_word : word_of origin.load j c ≡ slice_index c.core.ends j = word_alloc origin j c p.is.there in
       let less = small c meets mine sees in
       let after = sees_stay c meets mine sees m.0 sees in (
         then_anchored c,
-        subst (λ (n : ℕ). Turn origin c (then_anchored c) (part_count origin.load) u (y n)) (sym at_word) (anchor_turn c meets mine sees),
+        subst (λ (n : ℕ). Turn origin style c (then_anchored c) (part_count origin.load) u (y n)) (sym at_word) (anchor_turn c meets mine sees),
         record {
           opened = λ k r e. p.is.opened;
           wide = λ k r e. after.wide u role is;

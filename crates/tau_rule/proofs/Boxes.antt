@@ -20,14 +20,15 @@ use Rattle.tau_core.specs.View.{setting_of}
 use Rattle.tau_rule.specs.Role.{Share, Working, Managing, Clerking, Role}
 use Rattle.tau_core.specs.Pieces.{IsPieceOf, Paired}
 use Rattle.tau_rule.specs.Knows.{Knows}
-use Rattle.tau_machine.specs.Waits.{BusyHasHolder}
-use Rattle.tau_rule.specs.Rule.{Now, IsPart, IsShare, IsRole, IsOutbox, Sees, Meets, anchors_at, word_of, hand_of, has, part_count, outbox_part}
+use Rattle.tau_occ.specs.declared.style.Style.{Style}
+use Rattle.tau_rule.specs.Holders.{BusyHasCause}
+use Rattle.tau_rule.specs.Rule.{PersistsNone, Now, IsPart, IsShare, IsRole, IsOutbox, Sees, Meets, anchors_at, word_of, hand_of, has, part_count, outbox_part}
 use Rattle.tau_rule.specs.Steps.{ComesHome, handed, first_role, worker_in_share, next_worker}
 use Rattle.tau_rule.specs.Boxes.{BoxOf, box_in, with_box, StepsBox, GivesBox, told_box}
 use Rattle.tau_rule.specs.declared.part.Part.{Part}
 use Rattle.tau_rule.specs.declared.part.Part.TheVariants as part
 use Rattle.tau_core.specs.View.{tickets}
-use Rattle.tau_rule.proofs.Turns.{Turn, reached_invariant, more, reached_on, handed_sees, share_worker, one_role, role_alone, alone}
+use Rattle.tau_rule.proofs.Turns.{Turn, reached_invariant, more, reached_on, stored_on, handed_sees, share_worker, one_role, role_alone, alone}
 
 module _ (origin : Plain) where
   pub part_box : (c : Now) (w : ℕ) (p : Part) (b : PlainOutbox × PlainPending) → box_in p ≡ Some b → IsPart origin.load (outbox_part w) p c → IsOutbox origin.load b.0 b.1 (anchors_at c.core) (c.core.outboxes w)
@@ -48,7 +49,7 @@ module _ (origin : Plain) where
 
   module _ (c : Now) (w : ℕ) (old : Role) (wk : Worker) (box : Outbox) (spare : ℕ × ℕ) (wide : w < origin.load.workers) where
     abbrev pub on_box : Now
-    on_box = record { core = with_outbox (with_worker c.core w wk) w box; raised = c.raised; spare = at w spare c.spare }
+    on_box = record { core = with_outbox (with_worker c.core w wk) w box; raised = c.raised; spare = at w spare c.spare; stored = c.stored }
 
     parts_stay : (j : ℕ) (p : Part) → (j ≡ outbox_part w → ⊥) → IsPart origin.load j p c → IsPart origin.load j p on_box
     parts_stay j (part.Shard b) apart h = h
@@ -63,22 +64,23 @@ module _ (origin : Plain) where
         )
     parts_stay j (part.Anchor number lv) apart h = h
 
-    shares_stay : (u : ℕ) (x : Share) → (u ≡ w → ⊥) → IsShare origin.load u x c.core → IsShare origin.load u x on_box.core
+    shares_stay : (u : ℕ) (x : Share) → (u ≡ w → ⊥) → IsShare origin.load u x c → IsShare origin.load u x on_box
     shares_stay u (Working x) apart h = (h.0, at_other w wk c.core.workers u apart ∙ h.1)
-    shares_stay u (Managing g) apart h = (h.0, h.1, h.2, record { moved = h.3.moved; gathered = h.3.gathered; anchors = h.3.anchors; own = h.3.own })
+    shares_stay u (Managing g) apart h = (h.0, h.1, h.2, record { moved = h.3.moved; gathered = h.3.gathered; anchors = h.3.anchors; own = h.3.own; stored = h.3.stored })
     shares_stay u (Clerking acked) apart h = h
 
     pub on_box_sees : (v : Knows) → Sees origin c v → Sees origin on_box v
     on_box_sees v h = record { opened = h.opened; wide = h.wide; low = h.low; own = h.own; read = h.read; found = h.found }
 
-    pub on_box_turn : (e : Event) (new : List (Act Txn)) → Meets origin c → IsRole origin.load w old c → Leads (setting_of origin.load) e c.core on_box.core new → BusyHasHolder (setting_of origin.load) e c.core → Turn origin c on_box (outbox_part w) w (with_box old wk spare)
-    on_box_turn e new meets mine leads holder = record {
+    pub on_box_turn : {style : Style} (e : Event) (new : List (Act Txn)) → Meets origin style c → IsRole origin.load w old c → Leads (setting_of origin.load) e c.core on_box.core new → BusyHasCause (setting_of origin.load) style e c.core → PersistsNone e → Turn origin style c on_box (outbox_part w) w (with_box old wk spare)
+    on_box_turn e new meets mine leads holder none = record {
       parts = λ j p low apart h. parts_stay j p apart h;
       mine = ((wide, at_same w wk c.core.workers), mine.1, at_same w spare c.spare);
       others = λ u x apart h. (shares_stay u x.share apart h.0, h.1, at_other w spare c.spare u apart ∙ h.2);
       sight = λ v lacks h. on_box_sees v h;
       kept = record {
         reached = reached_on origin e c.core on_box.core new meets.reached leads holder;
+        stored = stored_on c.stored meets.reached.events e meets.stored none;
         going = meets.going;
         fits = λ j low. more _ _ (length meets.reached.joined) (length (meets.reached.joined ++ new)) _ (meets.fits j low) (let a = length-append meets.reached.joined new in omega arith);
         anchors = meets.anchors;
@@ -91,18 +93,18 @@ module _ (origin : Plain) where
     }
 
 -- an outbox comes home, with an event of its worker
-pub gives_box : (origin : Plain) (id : ℕ) (v : Knows) (carried : List (ℕ × Option Part)) (q : Part) (w : ℕ) (wk' : Worker) (spare : ℕ × ℕ) (e : Event) (g : GivesBox origin e (v, carried) q w wk' spare) → v.opened ≡ Some origin
-    → ComesHome origin id v (outbox_part w) q (handed v w (with_box g.role wk' spare))
-gives_box origin id v carried q w wk' spare e g opened =
+pub gives_box : (origin : Plain) {style : Style} (id : ℕ) (v : Knows) (carried : List (ℕ × Option Part)) (q : Part) (w : ℕ) (wk' : Worker) (spare : ℕ × ℕ) (e : Event) (g : GivesBox origin e (v, carried) q w wk' spare) → v.opened ≡ Some origin
+    → ComesHome origin style id v (outbox_part w) q (handed v w (with_box g.role wk' spare))
+gives_box origin {style} id v carried q w wk' spare e g opened =
     let y : Role = with_box g.role wk' spare in
-    gives_part (IsPart origin.load) (IsRole origin.load) (word_of origin.load) hand_of has (Sees origin) (Meets origin) (part_count origin.load) (origin.load.streams + origin.load.streams + 1) id (outbox_part w) v (handed v w y) g.taken q w g.role y g.held (one_role v w g.role g.roles) refl
+    gives_part (IsPart origin.load) (IsRole origin.load) (word_of origin.load) hand_of has (Sees origin) (Meets origin style) (part_count origin.load) (origin.load.streams + origin.load.streams + 1) id (outbox_part w) v (handed v w y) g.taken q w g.role y g.held (one_role v w g.role g.roles) refl
     (role_alone w y) (λ u z h. alone w y u z h)
     (λ c m part mine seen.
-    let worker = share_worker origin w g.role.share g.worker c.core g.share mine.0 in
-    let led = g.steps c m seen worker.1 (part_box origin c w g.taken g.before g.was part) in
+    let worker = share_worker origin w g.role.share g.worker c g.share mine.0 in
+    let led = g.steps style c m seen worker.1 (part_box origin c w g.taken g.before g.was part) in
     let c' : Now = on_box origin c w g.role wk' led.0 spare g.there in (
       c',
-      on_box_turn origin c w g.role wk' led.0 spare g.there e led.1 m mine led.2 led.4,
+      on_box_turn origin c w g.role wk' led.0 spare g.there e led.1 m mine led.2 led.4 g.none,
       box_part origin c' w q g.after g.is g.there (subst (λ (z : Outbox). IsOutbox origin.load g.after.0 g.after.1 (anchors_at c.core) z) (sym (at_same w led.0 c.core.outboxes)) led.3)
           (subst (λ (z : ℕ × ℕ). z.0 ≤ g.after.0.room) (sym (at_same w spare c.spare)) g.records) (subst (λ (z : ℕ × ℕ). z.1 ≤ g.after.1.room) (sym (at_same w spare c.spare)) g.calls),
       handed_sees origin c' v w g.role y g.there opened (one_role v w g.role g.roles) (on_box_sees origin c w g.role wk' led.0 spare g.there v seen),
@@ -120,7 +122,7 @@ paired_snoc R (a ∷ xs) (b ∷ ys) x y h r = (h.0, paired_snoc R xs ys x y h.1 
 -- a record that has its place is posted
 pub posts : (origin : Plain) (v : Knows) (w : ℕ) (wk wk' : Worker) (hand : Hand) (act : Act Txn) (b b' : PlainOutbox × PlainPending) (piece : Piece) → wk.hand ≡ Some hand → hand.phase ≡ Placed act → wk' ≡ record wk { hand = Some (record hand { phase = Freeing act }) } →
     b'.0.pieces ≡ b.0.pieces ++ piece ∷ [] → b'.1.calls ≡ b.1.calls → ((c : Now) → Sees origin c v → IsPieceOf origin.load (anchors_at c.core) piece (Record act)) → StepsBox origin (Post w) v w wk wk' b b'
-posts origin v w wk wk' hand act b b' piece is phase worker pieces calls spelled c meets sees at_worker box = (
+posts origin v w wk wk' hand act b b' piece is phase worker pieces calls spelled style c meets sees at_worker box = (
   record (c.core.outboxes w) { posted = (c.core.outboxes w).posted ++ Record act ∷ [] },
   [],
   (
@@ -149,7 +151,7 @@ low_end origin anchors (p ∷ ps) [] from start h low all = absurd h
 low_end origin anchors (p ∷ ps) (i ∷ is) from start h low all =
     low_end origin anchors ps is (outbox.past_of p) start h.1 (subst (λ (n : ℕ). n ≤ start) (sym h.0.past) (all i (inl refl))) (λ k m. all k (inr m))
 
-pub posts_behind : (origin : Plain) (c : Now) (w : ℕ) (wk : Worker) (hand : Hand) (act : Act Txn) (b : PlainOutbox × PlainPending) → Meets origin c → c.core.workers w ≡ wk → IsOutbox origin.load b.0 b.1 (anchors_at c.core) (c.core.outboxes w) → wk.hand ≡ Some hand → hand.phase ≡ Placed act →
+pub posts_behind : (origin : Plain) {style : Style} (c : Now) (w : ℕ) (wk : Worker) (hand : Hand) (act : Act Txn) (b : PlainOutbox × PlainPending) → Meets origin style c → c.core.workers w ≡ wk → IsOutbox origin.load b.0 b.1 (anchors_at c.core) (c.core.outboxes w) → wk.hand ≡ Some hand → hand.phase ≡ Placed act →
     outbox.end_of 0 b.0.pieces ≤ act.call.place.start
 posts_behind origin c w wk hand act b meets at_worker box is phase =
     let inv = reached_invariant origin c.core meets.reached in

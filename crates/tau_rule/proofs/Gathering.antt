@@ -24,8 +24,9 @@ use Rattle.tau_rule.specs.Rule.{MAX_ANCHOR, Now, IsPart, IsShare, IsManaged, IsR
 use Rattle.tau_rule.specs.Boxes.{GivesGathered, gathered_by}
 use Rattle.tau_rule.specs.declared.part.Part.{Part}
 use Rattle.tau_rule.specs.declared.part.Part.TheVariants as part
+use Rattle.tau_occ.specs.declared.style.Style.{Style}
 use Rattle.tau_rule.specs.Steps.{ComesHome, handed}
-use Rattle.tau_rule.proofs.Turns.{reached_invariant, Turn, reached_on, one_role, role_alone, alone}
+use Rattle.tau_rule.proofs.Turns.{reached_invariant, Turn, reached_on, stored_on, one_role, role_alone, alone}
 use Rattle.tau_rule.proofs.Boxes.{part_box, box_part, part_rooms}
 use Rattle.tau_rule.proofs.Persisting.{small_gathered}
 use Rattle.tau_shown.proofs.Steps.{gives_part}
@@ -130,8 +131,8 @@ module _ (origin : Plain) where
   ])
 
   -- the state after a Gather of these pieces of the outbox w by the manager of stream j
-  module _ (c : Now) (w j : ℕ) (taken left : List Piece) (o o' : PlainOutbox) (p p' : PlainPending) (g : Managed) (old : Role) (there : j < origin.load.streams) (low : w < origin.load.workers) (whose : (setting_of origin.load).stream_of w ≡ j)
-      (was : o.pieces ≡ taken ++ left) (is : o'.pieces ≡ left) (calls : p'.calls ≡ p.calls) (continues : Continues g.gathered taken) (meets : Meets origin c) (mine : IsManaged origin.load j g c.core) (box : IsOutbox origin.load o p (anchors_at c.core) (c.core.outboxes w)) where
+  module _ {style : Style} (c : Now) (w j : ℕ) (taken left : List Piece) (o o' : PlainOutbox) (p p' : PlainPending) (g : Managed) (old : Role) (there : j < origin.load.streams) (low : w < origin.load.workers) (whose : (setting_of origin.load).stream_of w ≡ j)
+      (was : o.pieces ≡ taken ++ left) (is : o'.pieces ≡ left) (calls : p'.calls ≡ p.calls) (continues : Continues g.gathered taken) (meets : Meets origin style c) (mine : IsManaged origin.load j g c) (box : IsOutbox origin.load o p (anchors_at c.core) (c.core.outboxes w)) where
     pub parts : Parted (anchors_at c.core) taken left (c.core.outboxes w).posted
     parts = parted (anchors_at c.core) taken left (c.core.outboxes w).posted (subst (λ (z : List Piece). Paired (IsPieceOf origin.load (anchors_at c.core)) z (c.core.outboxes w).posted) was box.posted)
 
@@ -139,10 +140,10 @@ module _ (origin : Plain) where
     past = g.gathered + length (bytes_of taken)
 
     abbrev pub gathered_now : Now
-    gathered_now = record { core = moved_to c.core j w parts.moved parts.rest past; raised = c.raised; spare = c.spare }
+    gathered_now = record { core = moved_to c.core j w parts.moved parts.rest past; raised = c.raised; spare = c.spare; stored = c.stored }
 
     abbrev pub managed_then : Managed
-    managed_then = record { taken = g.taken ++ taken; gathered = past; anchors = g.anchors; own = g.own }
+    managed_then = record g { taken = g.taken ++ taken; gathered = past }
 
     same : anchors_at gathered_now.core ≡ anchors_at c.core
     same = anchors_same c.core j w parts.moved parts.rest past
@@ -166,7 +167,7 @@ module _ (origin : Plain) where
       refl,
     )
 
-    pub gather_managed : IsManaged origin.load j managed_then gathered_now.core
+    pub gather_managed : IsManaged origin.load j managed_then gathered_now
     gather_managed =
         let str : Stream = record (c.core.streams j) { moved = (c.core.streams j).moved ++ parts.moved } in
         let here : gathered_now.core.streams j ≡ str = at_same j str c.core.streams in record {
@@ -175,6 +176,7 @@ module _ (origin : Plain) where
           gathered = get_or-set_same c.core.gathered j past 0 wide;
           anchors = ap (λ (x : Stream). x.anchors) here ∙ mine.anchors;
           own = subst (λ (z : (ℕ → List (List ℕ)) × List Item). Paired (IsPieceOf origin.load z.0) g.own z.1) (λ i. (sym same i, ap (λ (x : Stream). x.posted) (sym here) i)) mine.own;
+          stored = mine.stored;
         }
 
     pub gather_box : IsOutbox origin.load o' p' (anchors_at gathered_now.core) (gathered_now.core.outboxes w)
@@ -198,7 +200,7 @@ module _ (origin : Plain) where
         )
     parts_stay k (part.Anchor number lv) apart h = (h.0, h.1, h.2, subst (λ (z : ℕ → List (List ℕ)). Names origin.load h.0 (z h.0) number lv.value) (sym same) h.3, h.4)
 
-    shares_stay : (u : ℕ) (x : Share) → (u ≡ manager_role origin.load j → ⊥) → IsShare origin.load u x c.core → IsShare origin.load u x gathered_now.core
+    shares_stay : (u : ℕ) (x : Share) → (u ≡ manager_role origin.load j → ⊥) → IsShare origin.load u x c → IsShare origin.load u x gathered_now
     shares_stay u (Working x) apart h = h
     shares_stay u (Managing m) apart h =
         let other : h.0 ≡ j → ⊥ = (λ e. apart (h.1 ∙ ap (manager_role origin.load) e)) in
@@ -211,6 +213,7 @@ module _ (origin : Plain) where
             gathered = get_or-set_other c.core.gathered j h.0 past 0 other ∙ h.3.gathered;
             anchors = ap (λ (x : Stream). x.anchors) here ∙ h.3.anchors;
             own = subst (λ (z : (ℕ → List (List ℕ)) × List Item). Paired (IsPieceOf origin.load z.0) m.own z.1) (λ i. (sym same i, ap (λ (x : Stream). x.posted) (sym here) i)) h.3.own;
+            stored = h.3.stored;
           },
         )
     shares_stay u (Clerking acked) apart h = h
@@ -235,9 +238,10 @@ module _ (origin : Plain) where
     count_same : length (meets.reached.joined ++ []) ≡ length meets.reached.joined
     count_same = length-append meets.reached.joined [] ∙ add-zero (length meets.reached.joined)
 
-    gather_kept : Meets origin gathered_now
+    gather_kept : Meets origin style gathered_now
     gather_kept = record {
       reached = reached_on origin (Gather j) c.core gathered_now.core [] meets.reached gather_leads tt;
+      stored = stored_on c.stored meets.reached.events (Gather j) meets.stored tt;
       going = no_stop;
       fits = subst (λ (z : ℕ × (ℕ → List (List ℕ))). (i : ℕ) → i < origin.load.streams → slice_index c.core.ends i ≤ slice_index origin.load.opening.ends i + LONGEST * z.0 + MAX_ANCHOR * length (z.1 i)) (λ i. (sym count_same i, sym same i)) meets.fits;
       anchors = subst (λ (z : ℕ → List (List ℕ)). (i : ℕ) → i < origin.load.streams → length (z i) < 2 ^ 32) (sym same) meets.anchors;
@@ -256,7 +260,7 @@ module _ (origin : Plain) where
         omega (arith, h, is)
 
     -- a Gather is a turn of the manager on the outbox
-    pub gather_turn : c.raised (manager_role origin.load j) ≡ old.raised → c.spare (manager_role origin.load j) ≡ old.spare → Turn origin c gathered_now (outbox_part w) (manager_role origin.load j) (record old { share = Managing managed_then })
+    pub gather_turn : c.raised (manager_role origin.load j) ≡ old.raised → c.spare (manager_role origin.load j) ≡ old.spare → Turn origin style c gathered_now (outbox_part w) (manager_role origin.load j) (record old { share = Managing managed_then })
     gather_turn raised spare = record {
       parts = λ k q lt apart h. parts_stay k q apart h;
       mine = ((j, refl, there, gather_managed), raised, spare);
@@ -277,18 +281,18 @@ managing_sees origin c v j x y there is h = record {
 }
 
 -- an outbox comes home of which the manager has gathered these pieces
-pub gives_gathered : (origin : Plain) (id : ℕ) (v : Knows) (carried : List (ℕ × Option Part)) (q : Part) (w j : ℕ) (taken : List Piece) (g : GivesGathered origin (v, carried) q w j taken) →
-    ComesHome origin id v (outbox_part w) q (handed v (manager_role origin.load j) (record g.role { share = Managing (gathered_by g.managed taken) }))
-gives_gathered origin id v carried q w j taken g =
+pub gives_gathered : (origin : Plain) {style : Style} (id : ℕ) (v : Knows) (carried : List (ℕ × Option Part)) (q : Part) (w j : ℕ) (taken : List Piece) (g : GivesGathered origin (v, carried) q w j taken) →
+    ComesHome origin style id v (outbox_part w) q (handed v (manager_role origin.load j) (record g.role { share = Managing (gathered_by g.managed taken) }))
+gives_gathered origin {style} id v carried q w j taken g =
     let u : ℕ = manager_role origin.load j in
     let y : Role = record g.role { share = Managing (gathered_by g.managed taken) } in
-    gives_part (IsPart origin.load) (IsRole origin.load) (word_of origin.load) hand_of has (Sees origin) (Meets origin) (part_count origin.load) (origin.load.streams + origin.load.streams + 1) id (outbox_part w) v (handed v u y) g.part_taken q u g.role y g.held (one_role v u g.role g.roles) refl
+    gives_part (IsPart origin.load) (IsRole origin.load) (word_of origin.load) hand_of has (Sees origin) (Meets origin style) (part_count origin.load) (origin.load.streams + origin.load.streams + 1) id (outbox_part w) v (handed v u y) g.part_taken q u g.role y g.held (one_role v u g.role g.roles) refl
     (role_alone u y) (λ a z h. alone u y a z h)
     (λ c m part mine seen.
     let box = part_box origin c w g.part_taken g.before g.was part in
     let rooms = part_rooms origin c w g.part_taken g.before g.was part in
-    let managing = subst (λ (x : Share). IsShare origin.load u x c.core) g.share mine.0 in
-    let mine' : IsManaged origin.load j g.managed c.core = subst (λ (i : ℕ). IsManaged origin.load i g.managed c.core) (let e = managing.1 in omega arith) managing.3 in
+    let managing = subst (λ (x : Share). IsShare origin.load u x c) g.share mine.0 in
+    let mine' : IsManaged origin.load j g.managed c = subst (λ (i : ℕ). IsManaged origin.load i g.managed c) (let e = managing.1 in omega arith) managing.3 in
     let c' : Now = gathered_now origin c w j taken g.after.0.pieces g.before.0 g.after.0 g.before.1 g.after.1 g.managed g.role g.there g.low g.whose g.front refl g.calls g.continues m mine' box in (
       c',
       gather_turn origin c w j taken g.after.0.pieces g.before.0 g.after.0 g.before.1 g.after.1 g.managed g.role g.there g.low g.whose g.front refl g.calls g.continues m mine' box mine.1 mine.2,

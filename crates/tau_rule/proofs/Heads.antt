@@ -7,6 +7,7 @@ use Rattle.tau_shown.proofs.Steps.{splits_role, joins_roles}
 use Rattle.tau_base.specs.Vectors.{AtMost, join}
 use Rattle.tau_base.proofs.Vectors.{join_left, join_right, join_below, join_wider}
 use Rattle.tau_core.specs.State.{Plain}
+use Rattle.tau_occ.specs.declared.style.Style.{Style}
 use Rattle.tau_rule.specs.Role.{Role, role_in}
 use Rattle.tau_rule.specs.Knows.{Knows, spent}
 use Rattle.tau_rule.specs.Rule.{Now, Rule, IsPart, IsRole, Sees, Meets, word_of, hand_of, has, part_count, manager_role}
@@ -38,14 +39,14 @@ in_either (x ∷ xs) qs u z h = elim (cases_eq x.0 u) [
       (in_either xs qs u z (sym (ap (λ b. cond b (Some x.1) (role_in u (xs ++ qs))) (ne_eqb x.0 u off)) ∙ h))
 ]
 
-same_turn : (origin : Plain) (c : Now) (k r : ℕ) (x : Role) → IsRole origin.load r x c → Meets origin c → Turn origin c c k r x
+same_turn : (origin : Plain) {style : Style} (c : Now) (k r : ℕ) (x : Role) → IsRole origin.load r x c → Meets origin style c → Turn origin style c c k r x
 same_turn origin c k r x mine meets = record { parts = λ j p low apart h. h; mine = mine; others = λ u y apart h. h; sight = λ v lacks h. h; kept = meets }
 
 -- the head gives a role to a new seat, and no event happens
-pub splits : (origin : Plain) (id r : ℕ) (v : Knows) (x : Role) → v.hand ≡ None → has r v ≡ Some x → Splits (Rule origin) id v (left_by r v) (split_off r v)
-splits origin id r v x idle is =
+pub splits : (origin : Plain) {style : Style} (id r : ℕ) (v : Knows) (x : Role) → v.hand ≡ None → has r v ≡ Some x → Splits (Rule origin style) id v (left_by r v) (split_off r v)
+splits origin {style} id r v x idle is =
     let it : role_or (role_in r v.roles) ≡ x = ap role_or is in
-    splits_role (IsPart origin.load) (IsRole origin.load) (word_of origin.load) hand_of has (Sees origin) (Meets origin) (part_count origin.load) (origin.load.streams + origin.load.streams + 1) id r v (left_by r v) (split_off r v) x x idle idle refl is
+    splits_role (IsPart origin.load) (IsRole origin.load) (word_of origin.load) hand_of has (Sees origin) (Meets origin style) (part_count origin.load) (origin.load.streams + origin.load.streams + 1) id r v (left_by r v) (split_off r v) x x idle idle refl is
     (ap (λ (y : Role). role_in r ((r, y) ∷ [])) it ∙ role_alone r x)
     (λ u z h. still_in r v.roles u z h) (λ u z h. alone r (role_or (role_in r v.roles)) u z h)
     (λ c meets roles sees. (
@@ -71,9 +72,9 @@ splits origin id r v x idle is =
     ))
 
 -- the head takes in what a seat has
-pub joins : (origin : Plain) (id other : ℕ) (v w : Knows) → v.hand ≡ None → w.hand ≡ None → v.opened ≡ Some origin → length v.seen ≡ origin.load.streams → length w.seen ≡ origin.load.streams → v.read ≡ (0, replicate origin.load.streams 0) → Joins (Rule origin) id v other w (both v w) spent
-joins origin id other v w idle rests opened wide_v wide_w read =
-    joins_roles (IsPart origin.load) (IsRole origin.load) (word_of origin.load) hand_of has (Sees origin) (Meets origin) (part_count origin.load) (origin.load.streams + origin.load.streams + 1) id v other w (both v w) spent idle rests idle refl
+pub joins : (origin : Plain) {style : Style} (id other : ℕ) (v w : Knows) → v.hand ≡ None → w.hand ≡ None → v.opened ≡ Some origin → length v.seen ≡ origin.load.streams → length w.seen ≡ origin.load.streams → v.read ≡ (0, replicate origin.load.streams 0) → Joins (Rule origin style) id v other w (both v w) spent
+joins origin {style} id other v w idle rests opened wide_v wide_w read =
+    joins_roles (IsPart origin.load) (IsRole origin.load) (word_of origin.load) hand_of has (Sees origin) (Meets origin style) (part_count origin.load) (origin.load.streams + origin.load.streams + 1) id v other w (both v w) spent idle rests idle refl
     (λ u z h. in_either w.roles v.roles u z h) (λ u z h. let bad : None ≡ Some z = h in cc)
     (λ c meets a b.
     let low : AtMost (join v.seen w.seen) c.core.plv = join_below v.seen w.seen c.core.plv a.low b.low in record {
@@ -101,10 +102,10 @@ joins origin id other v w idle rests opened wide_v wide_w read =
     found_of false b h f g = g h
 
 -- it takes in what the seat of the manager of stream j has
-pub joins_at : (origin : Plain) (id other : ℕ) (v w : Knows) (j : ℕ) (x : Role) → v.hand ≡ None → w.hand ≡ None → v.opened ≡ Some origin → length v.seen ≡ origin.load.streams → length w.seen ≡ origin.load.streams → v.read ≡ (0, replicate origin.load.streams 0) →
-    j < origin.load.streams → w.roles ≡ (manager_role origin.load j, x) ∷ [] → Joins (Rule origin) id v other w (both_at j v w) spent
-joins_at origin id other v w j x idle rests opened wide wide_w read there manages =
-    joins_roles (IsPart origin.load) (IsRole origin.load) (word_of origin.load) hand_of has (Sees origin) (Meets origin) (part_count origin.load) (origin.load.streams + origin.load.streams + 1) id v other w (both_at j v w) spent idle rests idle refl
+pub joins_at : (origin : Plain) {style : Style} (id other : ℕ) (v w : Knows) (j : ℕ) (x : Role) → v.hand ≡ None → w.hand ≡ None → v.opened ≡ Some origin → length v.seen ≡ origin.load.streams → length w.seen ≡ origin.load.streams → v.read ≡ (0, replicate origin.load.streams 0) →
+    j < origin.load.streams → w.roles ≡ (manager_role origin.load j, x) ∷ [] → Joins (Rule origin style) id v other w (both_at j v w) spent
+joins_at origin {style} id other v w j x idle rests opened wide wide_w read there manages =
+    joins_roles (IsPart origin.load) (IsRole origin.load) (word_of origin.load) hand_of has (Sees origin) (Meets origin style) (part_count origin.load) (origin.load.streams + origin.load.streams + 1) id v other w (both_at j v w) spent idle rests idle refl
     (λ u z h. in_either w.roles v.roles u z h) (λ u z h. let bad : None ≡ Some z = h in cc)
     (λ c meets a b.
     let own_is : has (manager_role origin.load j) w ≡ Some x = ap (role_in (manager_role origin.load j)) manages ∙ role_alone (manager_role origin.load j) x in

@@ -10,6 +10,7 @@ use Rattle.tau_machine.specs.State.{Core}
 use Rattle.tau_machine.specs.Accounts.{one, in_acts}
 use Rattle.tau_machine.proofs.Lists.{apart_counts}
 use Rattle.tau_machine.proofs.Results.{committed_theorem}
+use Rattle.tau_occ.specs.declared.style.Style.{Style}
 use Rattle.tau_rule.specs.Rule.{IsReached}
 use Rattle.tau_rule.proofs.Turns.{reached_invariant, reached_invariant}
 use Rattle.tau_core.specs.State.{Plain}
@@ -61,7 +62,7 @@ numbered calls n c e = elim (cases_eq n 0) [
     above zero ne = absurd (ne refl)
     above (suc n) ne = omega arith
 
-pub few_joined : (origin : Plain) (s : Core) (r : IsReached origin s) → length r.joined ≤ length origin.load.calls
+pub few_joined : (origin : Plain) {style : Style} (s : Core) (r : IsReached origin style s) → length r.joined ≤ length origin.load.calls
 few_joined origin s r =
     let inv = reached_invariant origin s r in
     let known = committed_theorem (setting_of origin.load) r.joined s inv in

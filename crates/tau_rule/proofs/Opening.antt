@@ -17,6 +17,7 @@ use Rattle.tau_core.specs.Plain.{PlainSeat}
 use Rattle.tau_model.specs.declared.committed.Committed.{Committed}
 use Rattle.std.proofs.lemmas.Option.{slice_get_past}
 use Rattle.tau_core.specs.Parts.{nobody, no_shard}
+use Rattle.tau_occ.specs.declared.style.Style.{Style}
 use Rattle.tau_rule.specs.Role.{Role, role_in}
 use Rattle.tau_core.specs.Pieces.{IsPieceOf, Paired}
 use Rattle.tau_rule.specs.Rule.{Now, Rule, anchors_at, IsPart, IsShare, IsRole, IsLimited, Sees, Meets, word_of, hand_of, has, part_count, is_raised}
@@ -47,16 +48,16 @@ module _ (origin : Plain) (q : Opened origin.load origin) where
   o = core_of origin nothing
 
   abbrev pub now : Now
-  now = record { core = core_of origin nothing; raised = λ u. false; spare = λ u. (0, 0) }
+  now = record { core = core_of origin nothing; raised = λ u. false; spare = λ u. (0, 0); stored = λ j. [] }
 
   replicated : (n w : ℕ) → slice_index_or (replicate n no_tickets) w [] ≡ no_tickets
   replicated zero w = refl
   replicated (suc n) zero = refl
   replicated (suc n) (suc w) = replicated n w
 
-  outer_is : (u : ℕ) → origin.load.workers ≤ u → u < origin.load.workers + origin.load.streams + 1 → IsShare origin.load u (outer_share origin u) o
+  outer_is : (u : ℕ) → origin.load.workers ≤ u → u < origin.load.workers + origin.load.streams + 1 → IsShare origin.load u (outer_share origin u) now
   outer_is u low high = elim (leb_tells (u + 1) (origin.load.workers + origin.load.streams)) [
-    | inl a ↦ subst (λ (b : Bool). IsShare origin.load u (if b then manager_share origin u else clerk_share origin) o) (sym a.0) (
+    | inl a ↦ subst (λ (b : Bool). IsShare origin.load u (if b then manager_share origin u else clerk_share origin) now) (sym a.0) (
       u - origin.load.workers,
       (let h = a.1 in omega arith),
       (let h = a.1 in omega arith),
@@ -65,16 +66,17 @@ module _ (origin : Plain) (q : Opened origin.load origin) where
         gathered = ap (λ (v : List ℕ). slice_index v (u - origin.load.workers)) q.opening.gathered;
         anchors = q.opening.anchors (u - origin.load.workers);
         own = subst (λ (z : List Item). Paired (IsPieceOf origin.load (anchors_at o)) [] z) (sym (q.opening.own (u - origin.load.workers))) tt;
+        stored = refl;
       },
     )
-    | inr b ↦ subst (λ (z : Bool). IsShare origin.load u (if z then manager_share origin u else clerk_share origin) o) (sym b.0)
+    | inr b ↦ subst (λ (z : Bool). IsShare origin.load u (if z then manager_share origin u else clerk_share origin) now) (sym b.0)
         ((let h = b.1 in omega arith), λ w lt. q.opening.acked w ∙ sym (replicated origin.load.workers w))
   ]
 
-  share_is : (u : ℕ) → u < origin.load.workers + origin.load.streams + 1 → IsShare origin.load u (share_at origin u) o
+  share_is : (u : ℕ) → u < origin.load.workers + origin.load.streams + 1 → IsShare origin.load u (share_at origin u) now
   share_is u high = elim (leb_tells (u + 1) origin.load.workers) [
-    | inl a ↦ subst (λ (b : Bool). IsShare origin.load u (if b then worker_share origin u else outer_share origin u) o) (sym a.0) ((let h = a.1 in omega arith), refl)
-    | inr b ↦ subst (λ (z : Bool). IsShare origin.load u (if z then worker_share origin u else outer_share origin u) o) (sym b.0) (outer_is u (let h = b.1 in omega arith) high)
+    | inl a ↦ subst (λ (b : Bool). IsShare origin.load u (if b then worker_share origin u else outer_share origin u) now) (sym a.0) ((let h = a.1 in omega arith), refl)
+    | inr b ↦ subst (λ (z : Bool). IsShare origin.load u (if z then worker_share origin u else outer_share origin u) now) (sym b.0) (outer_is u (let h = b.1 in omega arith) high)
   ]
 
   sees_is : Sees origin now (first_view origin)
@@ -109,9 +111,10 @@ module _ (origin : Plain) (q : Opened origin.load origin) where
     wide = q.opening.count;
   }
 
-  meets_is : IsLimited origin.load → Meets origin now
+  meets_is : {style : Style} → IsLimited origin.load → Meets origin style now
   meets_is limits = record {
     reached = record { events = []; joined = []; run = (goes_on_theorem (setting_of origin.load) o).0 q.opening; held = (refl, refl) };
+    stored = λ j upto m. absurd m;
     going = q.opening.stops;
     fits = λ j lt. (let e = ap (λ (v : List ℕ). slice_index v j) q.opening.ends in omega arith);
     anchors = λ j lt. few_of (o.streams j).anchors (q.opening.anchors j);
@@ -123,10 +126,10 @@ module _ (origin : Plain) (q : Opened origin.load origin) where
   }
 
   -- the table shows it, where the slots hold its parts
-  pub begins : (ws : List ℕ) (xs : List (Option Part)) (part : ℕ → Part) → IsLimited origin.load → length ws ≡ 8 * (part_count origin.load + (origin.load.streams + origin.load.streams + 1)) → length xs ≡ part_count origin.load →
+  pub begins : {style : Style} (ws : List ℕ) (xs : List (Option Part)) (part : ℕ → Part) → IsLimited origin.load → length ws ≡ 8 * (part_count origin.load + (origin.load.streams + origin.load.streams + 1)) → length xs ≡ part_count origin.load →
       ((k : ℕ) → k < part_count origin.load → slice_index ws (8 * k) ≡ 0) → ((k : ℕ) → k < part_count origin.load → get_elem? xs k ≡ some (Some (part k))) → ((i : ℕ) → i < origin.load.streams + origin.load.streams + 1 → slice_index ws (8 * (part_count origin.load + i)) ≡ word_of origin.load i now) →
-      ((k : ℕ) → k < part_count origin.load → IsPart origin.load k (part k) now) → Rule origin (opening ws xs (first_view origin))
-  begins ws xs part limits wide count free home numbers parts =
-      opens (IsPart origin.load) (IsRole origin.load) (word_of origin.load) hand_of has (Sees origin) (Meets origin) (part_count origin.load) (origin.load.streams + origin.load.streams + 1) now part (first_view origin) ws xs wide count free home numbers parts refl
+      ((k : ℕ) → k < part_count origin.load → IsPart origin.load k (part k) now) → Rule origin style (opening ws xs (first_view origin))
+  begins {style} ws xs part limits wide count free home numbers parts =
+      opens (IsPart origin.load) (IsRole origin.load) (word_of origin.load) hand_of has (Sees origin) (Meets origin style) (part_count origin.load) (origin.load.streams + origin.load.streams + 1) now part (first_view origin) ws xs wide count free home numbers parts refl
       (λ u x h. let r = in_below origin (origin.load.workers + origin.load.streams + 1) u x h in subst (λ (y : Role). IsRole origin.load u y now) (sym r.1) (share_is u r.0, refl, refl))
       sees_is (meets_is limits)

@@ -1,25 +1,31 @@
 -- Loads and stores of the words of persisted positions.
-use Rattle.std.proofs.Common.{◌≡◌, ℕ, zero, suc, ◌+◌, ◌-◌, ◌*◌, ◌^◌, ◌<◌, ◌≤◌, ◌⊎◌, inl, inr, false, Bool, List, [], ◌∷◌, Option, length, refl, sym, ap, ◌∙◌, subst, arith, length-set, get_or-set_same, get_or-set_other, length-append, add-zero}
+use Rattle.std.proofs.Common.{◌≡◌, ℕ, zero, suc, ◌+◌, ◌-◌, ◌*◌, ◌^◌, ◌<◌, ◌≤◌, ◌⊎◌, inl, inr, false, Bool, List, [], ◌∷◌, ◌++◌, Option, length, refl, sym, ap, ◌∙◌, subst, arith, length-set, get_or-set_same, get_or-set_other, length-append, add-zero}
 use Rattle.std.specs.Prelude.{Some, ◌==◌, if◌then◌else◌, slice_index, slice_set, nat_le}
 use Rattle.std.proofs.lemmas.Bool.{cases_eq, ne_eqb, lt-leb}
 use Rattle.std.proofs.lemmas.Bool.Decides.{leb_tells}
 use mathlib.Core.Option.{none}
 use Rattle.atomic_table.specs.Table.{Step, step, Allows}
 use Rattle.tau_shown.proofs.Steps.{words_step, loads_word}
-use Rattle.tau_machine.specs.Events.{Persist, Leads}
+use Rattle.tau_machine.specs.Events.{Event, Persist, Leads}
+use Rattle.tau_machine.specs.Shard.{at}
+use Rattle.tau_machine.proofs.At.{at_same, at_other}
+use Rattle.tau_machine.proofs.Snoc.{member_last, member_snoc}
+use Rattle.tau_model.specs.History.{Member}
+use Rattle.tau_model.proofs.Orders.{member_front}
 use Rattle.tau_core.specs.State.{Plain}
 use Rattle.tau_core.specs.View.{setting_of}
-use Rattle.tau_rule.specs.Role.{Managed, Share, Working, Managing, Clerking, Role, role_in}
+use Rattle.tau_rule.specs.Role.{Managed, Share, Working, Managing, Clerking, Role, managed_in_share}
+use Rattle.tau_occ.specs.declared.style.Style.{Style}
 use Rattle.tau_rule.specs.Knows.{Knows}
-use Rattle.tau_rule.specs.Rule.{MAX_ANCHOR, Now, Rule, IsPart, IsShare, IsManaged, IsRole, Sees, Meets, word_of, hand_of, has, part_count, manager_role, number_if, is_raised, LONGEST}
-use Rattle.tau_rule.specs.Steps.{Sat}
-use Rattle.tau_rule.specs.Positions.{plv_word, sees_to, looked, stored, IsManager}
+use Rattle.tau_rule.specs.Rule.{HavePersisted, MAX_ANCHOR, Now, Rule, IsPart, IsShare, IsManaged, IsRole, Sees, Meets, word_of, hand_of, has, part_count, manager_role, number_if, is_raised, LONGEST}
+use Rattle.tau_rule.specs.Steps.{Sat, first_role}
+use Rattle.tau_rule.specs.Positions.{plv_word, sees_to, storing, stores_to, looked, stored, IsManager}
 use Rattle.tau_rule.specs.declared.part.Part.{Part}
 use Rattle.tau_rule.specs.declared.part.Part.TheVariants as part
 use Rattle.tau_rule.proofs.Gives.{one_origin}
 use Rattle.tau_rule.proofs.Numbers.{few_joined}
 use Rattle.tau_rule.proofs.Placing.{room}
-use Rattle.tau_rule.proofs.Turns.{reached_invariant, Turn, reached_on, alone, one_role}
+use Rattle.tau_rule.proofs.Turns.{reached_invariant, Turn, reached_on, alone, one_role, role_alone}
 use Rattle.tau_base.specs.declared.limits.TheConstants.{MAX_CALLS}
 
 same_beyond : (xs : List ℕ) (j y : ℕ) → length xs ≤ j → slice_set xs j y ≡ xs
@@ -65,7 +71,7 @@ seen_more origin c v j h = record {
 }
 
 -- no position wraps
-pub small_end : (origin : Plain) (c : Now) → Meets origin c → (j : ℕ) → j < origin.load.streams → slice_index c.core.ends j < 2 ^ 62
+pub small_end : (origin : Plain) {style : Style} (c : Now) → Meets origin style c → (j : ℕ) → j < origin.load.streams → slice_index c.core.ends j < 2 ^ 62
 small_end origin c meets j low =
     let few = few_joined origin c.core meets.reached in
     let calls = meets.limited.few in
@@ -73,13 +79,13 @@ small_end origin c meets j low =
     room (slice_index c.core.ends j) (slice_index origin.load.opening.ends j) (length meets.reached.joined) (MAX_ANCHOR * length (c.core.streams j).anchors) (length (c.core.streams j).anchors)
     (meets.limited.low j low) all refl (meets.anchors j low) (meets.fits j low)
 
-pub small_plv : (origin : Plain) (c : Now) → Meets origin c → (j : ℕ) → j < origin.load.streams → slice_index c.core.plv j < 2 ^ 62
+pub small_plv : (origin : Plain) {style : Style} (c : Now) → Meets origin style c → (j : ℕ) → j < origin.load.streams → slice_index c.core.plv j < 2 ^ 62
 small_plv origin c meets j low =
     let behind : slice_index c.core.plv j ≤ slice_index c.core.ends j = (reached_invariant origin c.core meets.reached).agrees.good.good.order.behind j in
     let ends = small_end origin c meets j low in
     omega (arith, behind, ends)
 
-pub small_gathered : (origin : Plain) (c : Now) → Meets origin c → (j : ℕ) → j < origin.load.streams → slice_index c.core.gathered j < 2 ^ 62
+pub small_gathered : (origin : Plain) {style : Style} (c : Now) → Meets origin style c → (j : ℕ) → j < origin.load.streams → slice_index c.core.gathered j < 2 ^ 62
 small_gathered origin c meets j low =
     let behind : slice_index c.core.gathered j ≤ slice_index c.core.ends j = (reached_invariant origin c.core meets.reached).agrees.good.gathered j in
     let ends = small_end origin c meets j low in
@@ -94,9 +100,9 @@ stream_at origin o j i e at =
     omega arith
 
 -- any seat loads the persisted position of a stream
-pub loads_plv : (origin : Plain) (id j : ℕ) (m : Sat) (st : Step (Option Part)) → m.0.opened ≡ Some origin → j < origin.load.streams → st.word ≡ plv_word origin.load j → Allows (Rule origin) (part_count origin.load) id m (plv_word origin.load j) (λ n. n) (looked st m)
-loads_plv origin id j m st opened low word =
-    loads_word (IsPart origin.load) (IsRole origin.load) (word_of origin.load) hand_of has (Sees origin) (Meets origin) (part_count origin.load) (origin.load.streams + origin.load.streams + 1) id (origin.load.streams + j) m.0 m.1 (omega arith)
+pub loads_plv : (origin : Plain) {style : Style} (id j : ℕ) (m : Sat) (st : Step (Option Part)) → m.0.opened ≡ Some origin → j < origin.load.streams → st.word ≡ plv_word origin.load j → Allows (Rule origin style) (part_count origin.load) id m (plv_word origin.load j) (λ n. n) (looked st m)
+loads_plv origin {style} id j m st opened low word =
+    loads_word (IsPart origin.load) (IsRole origin.load) (word_of origin.load) hand_of has (Sees origin) (Meets origin style) (part_count origin.load) (origin.load.streams + origin.load.streams + 1) id (origin.load.streams + j) m.0 m.1 (omega arith)
     (λ n. sees_to j n m.0) (λ n. refl) (λ n u. refl)
     (λ c meets h. subst (λ (n : ℕ). Sees origin c (sees_to j n m.0)) (sym (word_plv origin j c low)) (seen_more origin c m.0 j h))
     (looked st m)
@@ -107,13 +113,28 @@ loads_plv origin id j m st opened low word =
     subst (λ (z : ℕ). (slice_index m.0.seen z ≤ word_of origin.load (origin.load.streams + j) c) × (word_of origin.load (origin.load.streams + j) c < 2 ^ 62) × (me ≡ (sees_to z (word_of origin.load (origin.load.streams + j) c) m.0, m.1))) (sym same)
     ((let b = h.low j in omega arith), (let b = small_plv origin c meets j low in omega arith), refl))
 
-module _ (origin : Plain) (j : ℕ) (m : Sat) (managed : Managed) (new : ℕ) (p : IsManager origin j m managed) (up : slice_index m.0.seen j ≤ new) (high : new ≤ managed.gathered) where
-  abbrev pub then_persisted : Now → Now
-  then_persisted c = record { core = record c.core { plv = slice_set c.core.plv j new }; raised = c.raised; spare = c.spare }
+-- the stream and the position of a Persist
+abbrev persisted_by : Event → ℕ × ℕ
+persisted_by (Persist j upto) = (j, upto)
+persisted_by _ = (0, 0)
 
-  module _ (c : Now) (meets : Meets origin c) (mine : IsRole origin.load (manager_role origin.load j) p.role c) (sees : Sees origin c m.0) where
-    managing : (i : ℕ) × (manager_role origin.load j ≡ manager_role origin.load i) × (i < origin.load.streams) × IsManaged origin.load i managed c.core
-    managing = subst (λ (x : Share). IsShare origin.load (manager_role origin.load j) x c.core) p.share mine.0
+module _ (origin : Plain) (j : ℕ) (m : Sat) (managed : Managed) (new : ℕ) (p : IsManager origin j m managed) (up : slice_index m.0.seen j ≤ new) (high : new ≤ managed.gathered) where
+  -- what the manager has then
+  abbrev role_then : Role
+  role_then = record p.role { share = Managing (storing new managed) }
+
+  abbrev view_then : Knows
+  view_then = record (sees_to j new m.0) { roles = (manager_role origin.load j, role_then) ∷ [] }
+
+  told_is : stores_to j new m.0 ≡ view_then
+  told_is = λ i. record (sees_to j new m.0) { roles = ((first_role (p.roles i)).0, record (first_role (p.roles i)).1 { share = Managing (storing new ((ap (λ (r : List (ℕ × Role)). managed_in_share (first_role r).1.share) p.roles ∙ ap managed_in_share p.share) i)) }) ∷ [] }
+
+  abbrev pub then_persisted : Now → Now
+  then_persisted c = record { core = record c.core { plv = slice_set c.core.plv j new }; raised = c.raised; spare = c.spare; stored = at j (c.stored j ++ new ∷ []) c.stored }
+
+  module _ {style : Style} (c : Now) (meets : Meets origin style c) (mine : IsRole origin.load (manager_role origin.load j) p.role c) (sees : Sees origin c m.0) where
+    managing : (i : ℕ) × (manager_role origin.load j ≡ manager_role origin.load i) × (i < origin.load.streams) × IsManaged origin.load i managed c
+    managing = subst (λ (x : Share). IsShare origin.load (manager_role origin.load j) x c) p.share mine.0
 
     gathered_is : slice_index c.core.gathered j ≡ managed.gathered
     gathered_is = subst (λ (z : ℕ). slice_index c.core.gathered z ≡ managed.gathered) (let e = managing.1 in omega arith) managing.3.gathered
@@ -145,10 +166,38 @@ module _ (origin : Plain) (j : ℕ) (m : Sat) (managed : Managed) (new : ℕ) (p
     parts_stay k (part.Outbox o b) h = h
     parts_stay k (part.Anchor number lv) h = h
 
-    shares_stay : (u : ℕ) (x : Share) → IsShare origin.load u x c.core → IsShare origin.load u x (then_persisted c).core
-    shares_stay u (Working x) h = h
-    shares_stay u (Managing g) h = (h.0, h.1, h.2, record { moved = h.3.moved; gathered = h.3.gathered; anchors = h.3.anchors; own = h.3.own })
-    shares_stay u (Clerking acked) h = h
+    shares_stay : (u : ℕ) (x : Share) → (u ≡ manager_role origin.load j → ⊥) → IsShare origin.load u x c → IsShare origin.load u x (then_persisted c)
+    shares_stay u (Working x) apart h = h
+    shares_stay u (Managing g) apart h =
+        let other : h.0 ≡ j → ⊥ = (λ e. apart (h.1 ∙ ap (manager_role origin.load) e)) in
+        (h.0, h.1, h.2, record { moved = h.3.moved; gathered = h.3.gathered; anchors = h.3.anchors; own = h.3.own; stored = at_other j (c.stored j ++ new ∷ []) c.stored h.0 other ∙ h.3.stored })
+    shares_stay u (Clerking acked) apart h = h
+
+    managed_is : IsManaged origin.load j managed c
+    managed_is = subst (λ (i : ℕ). IsManaged origin.load i managed c) (let e = managing.1 in omega arith) managing.3
+
+    persist_managed : IsManaged origin.load j (storing new managed) (then_persisted c)
+    persist_managed = record {
+      moved = managed_is.moved;
+      gathered = managed_is.gathered;
+      anchors = managed_is.anchors;
+      own = managed_is.own;
+      stored = at_same j (c.stored j ++ new ∷ []) c.stored ∙ ap (λ (xs : List ℕ). xs ++ new ∷ []) managed_is.stored;
+    }
+
+    -- the list of the stream has the new position too
+    has_persisted : HavePersisted (then_persisted c).stored (meets.reached.events ++ Persist j new ∷ [])
+    has_persisted i upto m = elim (member_snoc meets.reached.events (Persist j new) (Persist i upto) m) [
+      | inl was ↦ elim (cases_eq i j) [
+        | inl is ↦ subst (λ (k : ℕ). Member upto (at j (c.stored j ++ new ∷ []) c.stored k)) (sym is)
+            (subst (Member upto) (sym (at_same j (c.stored j ++ new ∷ []) c.stored)) (member_front upto (c.stored j) (new ∷ []) (subst (λ (k : ℕ). Member upto (c.stored k)) is (meets.stored i upto was))))
+        | inr ne ↦ subst (Member upto) (sym (at_other j (c.stored j ++ new ∷ []) c.stored i ne)) (meets.stored i upto was)
+      ]
+      | inr same ↦
+          let both : (j, new) ≡ (i, upto) = ap persisted_by same in
+          subst (λ (p : ℕ × ℕ). Member p.1 (at j (c.stored j ++ new ∷ []) c.stored p.0)) both
+          (subst (Member new) (sym (at_same j (c.stored j ++ new ∷ []) c.stored)) (member_last (c.stored j) new))
+    ]
 
     rises : (i : ℕ) → slice_index c.core.plv i ≤ slice_index (slice_set c.core.plv j new) i
     rises i = elim (cases_eq i j) [
@@ -169,14 +218,15 @@ module _ (origin : Plain) (j : ℕ) (m : Sat) (managed : Managed) (new : ℕ) (p
       found = h.found;
     }
 
-    pub persist_turn : Turn origin c (then_persisted c) (part_count origin.load) (manager_role origin.load j) p.role
+    pub persist_turn : Turn origin style c (then_persisted c) (part_count origin.load) (manager_role origin.load j) role_then
     persist_turn = record {
       parts = λ k q low apart h. parts_stay k q h;
-      mine = (shares_stay (manager_role origin.load j) p.role.share mine.0, mine.1, mine.2);
-      others = λ u x apart h. (shares_stay u x.share h.0, h.1, h.2);
+      mine = ((j, refl, p.there, persist_managed), mine.1, mine.2);
+      others = λ u x apart h. (shares_stay u x.share apart h.0, h.1, h.2);
       sight = sight_stays;
       kept = record {
         reached = reached_on origin (Persist j new) c.core (then_persisted c).core [] meets.reached leads tt;
+        stored = has_persisted;
         going = meets.going;
         fits = subst (λ (k : ℕ). (i : ℕ) → i < origin.load.streams → slice_index c.core.ends i ≤ slice_index origin.load.opening.ends i + LONGEST * k + MAX_ANCHOR * length (c.core.streams i).anchors) (sym (length-append meets.reached.joined [] ∙ add-zero (length meets.reached.joined))) meets.fits;
         anchors = meets.anchors;
@@ -188,10 +238,10 @@ module _ (origin : Plain) (j : ℕ) (m : Sat) (managed : Managed) (new : ℕ) (p
       };
     }
 
-    own_sees : Sees origin (then_persisted c) (sees_to j new m.0)
+    own_sees : Sees origin (then_persisted c) view_then
     own_sees = record {
-      opened = sees.opened;
-      wide = λ u r e. length-set m.0.seen j new ∙ sees.wide u r e;
+      opened = λ u r e. p.opened;
+      wide = λ u r e. length-set m.0.seen j new ∙ sees.wide (manager_role origin.load j) p.role (one_role m.0 (manager_role origin.load j) p.role p.roles);
       low = λ i. elim (cases_eq i j) [
         | inl is ↦ subst (λ (z : ℕ). slice_index (slice_set m.0.seen j new) z ≤ slice_index (slice_set c.core.plv j new) z) (sym is)
             (let e = get_or-set_same c.core.plv j new 0 wide_plv in let f = get_or-set_same m.0.seen j new 0 wide_seen in omega arith)
@@ -200,9 +250,9 @@ module _ (origin : Plain) (j : ℕ) (m : Sat) (managed : Managed) (new : ℕ) (p
       own = λ i r lt e. elim (cases_eq i j) [
         | inl is ↦ subst (λ (z : ℕ). slice_index (slice_set m.0.seen j new) z ≡ slice_index (slice_set c.core.plv j new) z) (sym is)
             (get_or-set_same m.0.seen j new 0 wide_seen ∙ sym (get_or-set_same c.core.plv j new 0 wide_plv))
-        | inr ne ↦ get_or-set_other m.0.seen j i new 0 ne ∙ sees.own i r lt e ∙ sym (get_or-set_other c.core.plv j i new 0 ne)
+        | inr ne ↦ absurd (ne (let a = alone (manager_role origin.load j) role_then (manager_role origin.load i) r e in omega arith))
       ];
-      read = sees.read;
+      read = λ w r lt e. absurd (let a = alone (manager_role origin.load j) role_then w r e in omega arith);
       found = sees.found;
     }
       where
@@ -219,10 +269,10 @@ module _ (origin : Plain) (j : ℕ) (m : Sat) (managed : Managed) (new : ℕ) (p
   ]
 
   -- the manager stores how far its disk is
-  pub persists : (id : ℕ) (st : Step (Option Part)) → st.first ≡ new → st.word ≡ plv_word origin.load j → Allows (Rule origin) (part_count origin.load) id m (plv_word origin.load j) (λ _. new) (λ _. stored st m new)
-  persists id st first word =
-      words_step (IsPart origin.load) (IsRole origin.load) (word_of origin.load) hand_of has (Sees origin) (Meets origin) (part_count origin.load) (origin.load.streams + origin.load.streams + 1) id (origin.load.streams + j) m.0 m.1 (manager_role origin.load j) p.role (let low = p.there in omega arith) (one_role m.0 (manager_role origin.load j) p.role p.roles)
-      (λ _. new) (λ _. sees_to j new m.0) (λ _. p.role) (λ _. refl) (λ _. one_role m.0 (manager_role origin.load j) p.role p.roles) (λ n u z h. alone (manager_role origin.load j) p.role u z (sym (ap (role_in u) p.roles) ∙ h))
+  pub persists : {style : Style} (id : ℕ) (st : Step (Option Part)) → st.first ≡ new → st.word ≡ plv_word origin.load j → Allows (Rule origin style) (part_count origin.load) id m (plv_word origin.load j) (λ _. new) (λ _. stored st m new)
+  persists {style} id st first word =
+      words_step (IsPart origin.load) (IsRole origin.load) (word_of origin.load) hand_of has (Sees origin) (Meets origin style) (part_count origin.load) (origin.load.streams + origin.load.streams + 1) id (origin.load.streams + j) m.0 m.1 (manager_role origin.load j) p.role (let low = p.there in omega arith) (one_role m.0 (manager_role origin.load j) p.role p.roles)
+      (λ _. new) (λ _. view_then) (λ _. role_then) (λ _. refl) (λ _. role_alone (manager_role origin.load j) role_then) (λ n u z h. alone (manager_role origin.load j) role_then u z h)
       (λ c meets mine sees. (
         then_persisted c,
         persist_turn c meets mine sees,
@@ -233,10 +283,10 @@ module _ (origin : Plain) (j : ℕ) (m : Sat) (managed : Managed) (new : ℕ) (p
       (λ _. stored st m new)
       (λ c meets mine sees o its i at.
       let same : i ≡ j = stream_at origin o j i (sym p.opened ∙ its) (sym word ∙ at) in
-      λ k. (sees_to (sym same k) (sym first k) m.0, m.1))
+      ap (λ (v : Knows). (v, m.1)) (sym told_is) ∙ (λ k. (stores_to (sym same k) (sym first k) m.0, m.1)))
 
-pub persists_as : (origin : Plain) (slots id j word new : ℕ) (m : Sat) (managed : Managed) → IsManager origin j m managed → slice_index m.0.seen j ≤ new → new ≤ managed.gathered → slots ≡ part_count origin.load → word ≡ plv_word origin.load j
-    → Allows (Rule origin) slots id m word (λ _. new) (λ _. stored (step slots word new 0 none) m new)
-persists_as origin slots id j word new m managed p up high es is =
-    subst (λ (z : ℕ × ℕ). Allows (Rule origin) z.0 id m z.1 (λ _. new) (λ _. stored (step z.0 z.1 new 0 none) m new)) (λ i. (sym es i, sym is i))
+pub persists_as : (origin : Plain) {style : Style} (slots id j word new : ℕ) (m : Sat) (managed : Managed) → IsManager origin j m managed → slice_index m.0.seen j ≤ new → new ≤ managed.gathered → slots ≡ part_count origin.load → word ≡ plv_word origin.load j
+    → Allows (Rule origin style) slots id m word (λ _. new) (λ _. stored (step slots word new 0 none) m new)
+persists_as origin {style} slots id j word new m managed p up high es is =
+    subst (λ (z : ℕ × ℕ). Allows (Rule origin style) z.0 id m z.1 (λ _. new) (λ _. stored (step z.0 z.1 new 0 none) m new)) (λ i. (sym es i, sym is i))
     (persists origin j m managed new p up high id (step (part_count origin.load) (plv_word origin.load j) new 0 none) refl refl)

@@ -24,13 +24,14 @@ use Rattle.tau_core.specs.State.{Plain}
 use Rattle.tau_core.specs.View.{setting_of}
 use Rattle.tau_rule.specs.Role.{Share, Working, Managing, Clerking, Role}
 use Rattle.tau_core.specs.Pieces.{Names}
+use Rattle.tau_occ.specs.declared.style.Style.{Style}
 use Rattle.tau_rule.specs.Knows.{Knows}
 use Rattle.tau_rule.specs.Rule.{Now, Rule, IsPart, IsShare, IsRole, Sees, Meets, MAX_ANCHOR, anchors_at, word_of, hand_of, has, part_count, manager_role, number_if, is_raised, LONGEST}
 use Rattle.tau_rule.specs.Steps.{Sat, IsAfter, working, first_role, worker_in_share}
 use Rattle.tau_rule.specs.Places.{IsToPlace, placed_by, placed_worker, placed, got_place}
 use Rattle.tau_rule.specs.declared.part.Part.{Part}
 use Rattle.tau_rule.specs.declared.part.Part.TheVariants as part
-use Rattle.tau_rule.proofs.Turns.{reached_invariant, Turn, reached_on, more, role_alone, alone, one_role, share_worker}
+use Rattle.tau_rule.proofs.Turns.{reached_invariant, Turn, reached_on, stored_on, more, role_alone, alone, one_role, share_worker}
 use Rattle.tau_rule.proofs.Numbers.{few_joined}
 use Rattle.tau_base.proofs.Vectors.{join_none}
 use Rattle.tau_core.proofs.CommitLeads.{join_zero}
@@ -61,7 +62,7 @@ word_alloc origin j c low =
     ap (λ (z : Bool). if z then number_if (is_raised (origin.load.workers + origin.load.streams + 1) c.raised) else (if nat_le (j + 1) origin.load.streams then slice_index c.core.ends j else slice_index c.core.plv (j - origin.load.streams))) a
     ∙ ap (λ (z : Bool). if z then slice_index c.core.ends j else slice_index c.core.plv (j - origin.load.streams)) b
 
-pub word_other : (origin : Plain) (j : ℕ) (c : Now) (s : Core) (past : ℕ) → s.plv ≡ c.core.plv → s.ends ≡ slice_set c.core.ends j past → (i : ℕ) → (i ≡ j → ⊥) → word_of origin.load i (record { core = s; raised = c.raised; spare = c.spare }) ≡ word_of origin.load i c
+pub word_other : (origin : Plain) (j : ℕ) (c : Now) (s : Core) (past : ℕ) → s.plv ≡ c.core.plv → s.ends ≡ slice_set c.core.ends j past → (i : ℕ) → (i ≡ j → ⊥) → word_of origin.load i (record { core = s; raised = c.raised; spare = c.spare; stored = c.stored }) ≡ word_of origin.load i c
 word_other origin j c s past plv ends i apart = λ k. if i == origin.load.streams + origin.load.streams then number_if (is_raised (origin.load.workers + origin.load.streams + 1) c.raised)
     else (if nat_le (i + 1) origin.load.streams then (ap (λ (v : List ℕ). slice_index v i) ends ∙ get_or-set_other c.core.ends j i past 0 apart) k else slice_index (plv k) (i - origin.load.streams))
 
@@ -96,12 +97,13 @@ module _ (origin : Plain) (w : ℕ) (m : Sat) (t : PlainTxn) (p : IsToPlace orig
     core = record (with_worker c.core w (placed_worker origin.load p.worker t (slice_index c.core.ends j))) { ends = slice_set c.core.ends j (slice_index c.core.ends j + length (bytes_in t)) };
     raised = c.raised;
     spare = c.spare;
+    stored = c.stored;
   }
 
   abbrev act : Now → Act Txn
   act c = act_at origin.load.procs t (slice_index c.core.ends j) raised_hand
 
-  module _ (c : Now) (meets : Meets origin c) (mine : c.core.workers w ≡ p.worker) (sees : Sees origin c m.0) where
+  module _ {style : Style} (c : Now) (meets : Meets origin style c) (mine : c.core.workers w ≡ p.worker) (sees : Sees origin c m.0) where
     start : ℕ
     start = slice_index c.core.ends j
 
@@ -168,9 +170,9 @@ module _ (origin : Plain) (w : ℕ) (m : Sat) (t : PlainTxn) (p : IsToPlace orig
     parts_stay k (part.Outbox o b) h = h
     parts_stay k (part.Anchor number lv) h = h
 
-    shares_stay : (u : ℕ) (x : Share) → (u ≡ w → ⊥) → IsShare origin.load u x c.core → IsShare origin.load u x (then_placed c).core
+    shares_stay : (u : ℕ) (x : Share) → (u ≡ w → ⊥) → IsShare origin.load u x c → IsShare origin.load u x (then_placed c)
     shares_stay u (Working x) apart h = (h.0, at_other w (placed_worker origin.load p.worker t (slice_index c.core.ends j)) c.core.workers u apart ∙ h.1)
-    shares_stay u (Managing g) apart h = (h.0, h.1, h.2, record { moved = h.3.moved; gathered = h.3.gathered; anchors = h.3.anchors; own = h.3.own })
+    shares_stay u (Managing g) apart h = (h.0, h.1, h.2, record { moved = h.3.moved; gathered = h.3.gathered; anchors = h.3.anchors; own = h.3.own; stored = h.3.stored })
     shares_stay u (Clerking acked) apart h = h
 
     sight_stays : (v : Knows) → Sees origin c v → Sees origin (then_placed c) v
@@ -189,9 +191,10 @@ module _ (origin : Plain) (w : ℕ) (m : Sat) (t : PlainTxn) (p : IsToPlace orig
           subst (λ (z : ℕ). z ≤ slice_index origin.load.opening.ends i + LONGEST * length (meets.reached.joined ++ act c ∷ []) + MAX_ANCHOR * length (c.core.streams i).anchors) (sym there) f)
     ]
 
-    pub kept : Meets origin (then_placed c)
+    pub kept : Meets origin style (then_placed c)
     kept = record {
       reached = reached_on origin (Commit w) c.core (then_placed c).core (act c ∷ []) meets.reached leads tt;
+      stored = stored_on c.stored meets.reached.events (Commit w) meets.stored tt;
       going = meets.going;
       fits = fits_on;
       anchors = meets.anchors;
@@ -202,7 +205,7 @@ module _ (origin : Plain) (w : ℕ) (m : Sat) (t : PlainTxn) (p : IsToPlace orig
       streams = meets.streams;
     }
 
-    pub place_turn : c.raised w ≡ p.role.raised → c.spare w ≡ p.role.spare → Turn origin c (then_placed c) (part_count origin.load) w (working p.role (placed_worker origin.load p.worker t (slice_index c.core.ends j)))
+    pub place_turn : c.raised w ≡ p.role.raised → c.spare w ≡ p.role.spare → Turn origin style c (then_placed c) (part_count origin.load) w (working p.role (placed_worker origin.load p.worker t (slice_index c.core.ends j)))
     place_turn raised spare = record {
       parts = λ k q low apart h. parts_stay k q h;
       mine = ((p.there, at_same w (placed_worker origin.load p.worker t (slice_index c.core.ends j)) c.core.workers), raised, spare);
@@ -229,17 +232,17 @@ module _ (origin : Plain) (w : ℕ) (m : Sat) (t : PlainTxn) (p : IsToPlace orig
   abbrev size : ℕ
   size = length (bytes_in t)
 
-  pub places : (id : ℕ) (st : Step (Option Part)) → st.first ≡ length (bytes_in t) → j < origin.load.streams → Allows (Rule origin) (part_count origin.load) id m (8 * (part_count origin.load + j)) (λ n. (n + length (bytes_in t)) % 2 ^ 64) (got_place knows_then st m)
-  places id st first low =
-      words_step (IsPart origin.load) (IsRole origin.load) (word_of origin.load) hand_of has (Sees origin) (Meets origin) (part_count origin.load) (origin.load.streams + origin.load.streams + 1) id j m.0 m.1 w p.role (omega arith) (one_role m.0 w p.role p.seat.roles)
+  pub places : {style : Style} (id : ℕ) (st : Step (Option Part)) → st.first ≡ length (bytes_in t) → j < origin.load.streams → Allows (Rule origin style) (part_count origin.load) id m (8 * (part_count origin.load + j)) (λ n. (n + length (bytes_in t)) % 2 ^ 64) (got_place knows_then st m)
+  places {style} id st first low =
+      words_step (IsPart origin.load) (IsRole origin.load) (word_of origin.load) hand_of has (Sees origin) (Meets origin style) (part_count origin.load) (origin.load.streams + origin.load.streams + 1) id j m.0 m.1 w p.role (omega arith) (one_role m.0 w p.role p.seat.roles)
       (λ n. (n + length (bytes_in t)) % 2 ^ 64) knows_then (λ start. working p.role (placed_worker origin.load p.worker t start)) (λ start. refl) (λ start. role_alone w (working p.role (placed_worker origin.load p.worker t start)))
       (λ start u z h. alone w (working p.role (placed_worker origin.load p.worker t start)) u z h)
       (λ c meets mine sees.
-      let worker = share_worker origin w p.role.share p.worker c.core p.share mine.0 in
+      let worker = share_worker origin w p.role.share p.worker c p.share mine.0 in
       let is : word_of origin.load j c ≡ slice_index c.core.ends j = word_alloc origin j c low in
       let less = small c meets worker.1 sees in (
         then_placed c,
-        subst (λ (n : ℕ). Turn origin c (then_placed c) (part_count origin.load) w (working p.role (placed_worker origin.load p.worker t n))) (sym is) (place_turn c meets worker.1 sees mine.1 mine.2),
+        subst (λ (n : ℕ). Turn origin style c (then_placed c) (part_count origin.load) w (working p.role (placed_worker origin.load p.worker t n))) (sym is) (place_turn c meets worker.1 sees mine.1 mine.2),
         knows_sees (then_placed c) (word_of origin.load j c) (sight_stays c meets worker.1 sees m.0 sees),
         word_alloc origin j (then_placed c) low ∙ get_or-set_same c.core.ends j (slice_index c.core.ends j + length (bytes_in t)) 0 (wide c meets worker.1 sees)
             ∙ sym (mod-eq_of_lt (omega arith)) ∙ ap (λ (n : ℕ). (n + length (bytes_in t)) % 2 ^ 64) (sym is),
@@ -247,7 +250,7 @@ module _ (origin : Plain) (w : ℕ) (m : Sat) (t : PlainTxn) (p : IsToPlace orig
       ))
       (got_place knows_then st m)
       (λ c meets mine sees.
-      let worker = share_worker origin w p.role.share p.worker c.core p.share mine.0 in
+      let worker = share_worker origin w p.role.share p.worker c p.share mine.0 in
       let is : word_of origin.load j c ≡ slice_index c.core.ends j = word_alloc origin j c low in
       let less = small c meets worker.1 sees in
       (refl, omega (arith, is, first, less)))
@@ -255,12 +258,12 @@ module _ (origin : Plain) (w : ℕ) (m : Sat) (t : PlainTxn) (p : IsToPlace orig
   pub placed_is : (start : ℕ) → placed origin.load m.0 t start ≡ knows_then start
   placed_is start = λ i. record m.0 { roles = ((first_role (p.seat.roles i)).0, working (first_role (p.seat.roles i)).1 (placed_worker origin.load ((ap (λ (r : List (ℕ × Role)). worker_in_share (first_role r).1.share) p.seat.roles ∙ ap worker_in_share p.share) i) t start)) ∷ [] }
 
-pub places_as : (origin : Plain) (slots id w k size word : ℕ) (me : Sat) (t : PlainTxn) (p : IsToPlace origin w me t) (told : ℕ → Knows) → slots ≡ part_count origin.load → k ≡ w % origin.load.streams → k < origin.load.streams → word ≡ 8 * (part_count origin.load + k) → size ≡ length (bytes_in t) → told ≡ placed origin.load me.0 t
-    → Allows (Rule origin) slots id me word (λ n. (n + size) % 2 ^ 64) (got_place told (step slots word size 0 none) me)
-places_as origin slots id w k _ word me t p told es is low at_word sized same =
+pub places_as : (origin : Plain) {style : Style} (slots id w k size word : ℕ) (me : Sat) (t : PlainTxn) (p : IsToPlace origin w me t) (told : ℕ → Knows) → slots ≡ part_count origin.load → k ≡ w % origin.load.streams → k < origin.load.streams → word ≡ 8 * (part_count origin.load + k) → size ≡ length (bytes_in t) → told ≡ placed origin.load me.0 t
+    → Allows (Rule origin style) slots id me word (λ n. (n + size) % 2 ^ 64) (got_place told (step slots word size 0 none) me)
+places_as origin {style} slots id w k _ word me t p told es is low at_word sized same =
     let knows : told ≡ knows_then origin w me t p = same ∙ (λ i start. placed_is origin w me t p start i) in
     let at' : word ≡ 8 * (part_count origin.load + w % origin.load.streams) = at_word ∙ ap (λ (z : ℕ). 8 * (part_count origin.load + z)) is in
-    subst (λ (z : ℕ × ℕ × ℕ × (ℕ → Knows)). Allows (Rule origin) z.0 id me z.1 (λ n. (n + z.2) % 2 ^ 64) (got_place z.3 (step z.0 z.1 z.2 0 none) me)) (λ i. (sym es i, sym at' i, sym sized i, sym knows i))
+    subst (λ (z : ℕ × ℕ × ℕ × (ℕ → Knows)). Allows (Rule origin style) z.0 id me z.1 (λ n. (n + z.2) % 2 ^ 64) (got_place z.3 (step z.0 z.1 z.2 0 none) me)) (λ i. (sym es i, sym at' i, sym sized i, sym knows i))
     (places origin w me t p id (step (part_count origin.load) (8 * (part_count origin.load + w % origin.load.streams)) (length (bytes_in t)) 0 none) refl (subst (λ (z : ℕ). z < origin.load.streams) is low))
 
 -- the call in hand has its place

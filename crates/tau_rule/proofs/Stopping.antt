@@ -7,6 +7,7 @@ use Rattle.tau_shown.proofs.Steps.{words_step, loads_word}
 use Rattle.tau_machine.specs.Shard.{at}
 use Rattle.tau_machine.proofs.At.{at_same, at_other}
 use Rattle.tau_core.specs.State.{Plain}
+use Rattle.tau_occ.specs.declared.style.Style.{Style}
 use Rattle.tau_rule.specs.Role.{Role}
 use Rattle.tau_rule.specs.Knows.{Knows}
 use Rattle.tau_rule.specs.Rule.{Now, Rule, IsPart, IsRole, Sees, Meets, word_of, hand_of, has, part_count, manager_role, number_if, is_raised}
@@ -14,7 +15,7 @@ use Rattle.tau_rule.specs.Steps.{Sat, knew}
 use Rattle.tau_rule.specs.Stopping.{stop_word, raising}
 use Rattle.tau_rule.specs.declared.part.Part.{Part}
 use Rattle.tau_rule.specs.declared.part.Part.TheVariants as part
-use Rattle.tau_rule.proofs.Turns.{one_role, role_alone, alone}
+use Rattle.tau_rule.proofs.Turns.{one_role, role_alone, alone, same_share}
 
 pub raises : (n u : ℕ) (f : ℕ → Bool) → u < n → is_raised n (at u true f) ≡ true
 raises zero u f low = absurd (omega arith)
@@ -31,31 +32,31 @@ word_stop : (origin : Plain) (c : Now) → word_of origin.load (origin.load.stre
 word_stop origin c = ap (λ (b : Bool). if b then number_if (is_raised (origin.load.workers + origin.load.streams + 1) c.raised) else (if nat_le (origin.load.streams + origin.load.streams + 1) origin.load.streams then slice_index c.core.ends (origin.load.streams + origin.load.streams) else slice_index c.core.plv (origin.load.streams + origin.load.streams - origin.load.streams)))
     (eq-eqb (origin.load.streams + origin.load.streams) (origin.load.streams + origin.load.streams) refl)
 
-same_raised : (origin : Plain) (c : Now) (f : ℕ → Bool) (k : ℕ) (q : Part) → IsPart origin.load k q c → IsPart origin.load k q (record { core = c.core; raised = f; spare = c.spare })
+same_raised : (origin : Plain) (c : Now) (f : ℕ → Bool) (k : ℕ) (q : Part) → IsPart origin.load k q c → IsPart origin.load k q (record { core = c.core; raised = f; spare = c.spare; stored = c.stored })
 same_raised origin c f k (part.Shard b) h = h
 same_raised origin c f k (part.Outbox o p) h = h
 same_raised origin c f k (part.Anchor n v) h = h
 
 -- a seat with this role raises the stop
-pub stops : (origin : Plain) (id u : ℕ) (m : Sat) (x : Role) (st : Step (Option Part)) → m.0.opened ≡ Some origin → m.0.roles ≡ (u, x) ∷ [] → u < origin.load.workers + origin.load.streams + 1 →
-    Allows (Rule origin) (part_count origin.load) id m (stop_word origin.load) (λ _. 1) (λ _. knew (λ _. raising u x m.0) st m 1)
-stops origin id u m x st opened roles low =
+pub stops : (origin : Plain) {style : Style} (id u : ℕ) (m : Sat) (x : Role) (st : Step (Option Part)) → m.0.opened ≡ Some origin → m.0.roles ≡ (u, x) ∷ [] → u < origin.load.workers + origin.load.streams + 1 →
+    Allows (Rule origin style) (part_count origin.load) id m (stop_word origin.load) (λ _. 1) (λ _. knew (λ _. raising u x m.0) st m 1)
+stops origin {style} id u m x st opened roles low =
     let y : Role = record x { raised = true } in
     let is : has u m.0 ≡ Some x = one_role m.0 u x roles in
-    words_step (IsPart origin.load) (IsRole origin.load) (word_of origin.load) hand_of has (Sees origin) (Meets origin) (part_count origin.load) (origin.load.streams + origin.load.streams + 1) id (origin.load.streams + origin.load.streams) m.0 m.1 u x (omega arith) is
+    words_step (IsPart origin.load) (IsRole origin.load) (word_of origin.load) hand_of has (Sees origin) (Meets origin style) (part_count origin.load) (origin.load.streams + origin.load.streams + 1) id (origin.load.streams + origin.load.streams) m.0 m.1 u x (omega arith) is
     (λ _. 1) (λ _. raising u x m.0) (λ _. y) (λ _. refl) (λ _. role_alone u y) (λ n k z h. alone u y k z h)
     (λ c meets mine sees.
-    let c' : Now = record { core = c.core; raised = at u true c.raised; spare = c.spare } in
+    let c' : Now = record { core = c.core; raised = at u true c.raised; spare = c.spare; stored = c.stored } in
     let up : is_raised (origin.load.workers + origin.load.streams + 1) c'.raised ≡ true = raises (origin.load.workers + origin.load.streams + 1) u c.raised low in
     let stay : (v : Knows) → Sees origin c v → Sees origin c' v = (λ v h. record { opened = h.opened; wide = h.wide; low = h.low; own = h.own; read = h.read; found = λ _. up }) in
     let after = stay m.0 sees in (
       c',
       record {
         parts = λ k q lt apart h. same_raised origin c (at u true c.raised) k q h;
-        mine = (mine.0, at_same u true c.raised, mine.2);
-        others = λ k z apart h. (h.0, at_other u true c.raised k apart ∙ h.1, h.2);
+        mine = (same_share origin c (at u true c.raised) c.spare u x.share mine.0, at_same u true c.raised, mine.2);
+        others = λ k z apart h. (same_share origin c (at u true c.raised) c.spare k z.share h.0, at_other u true c.raised k apart ∙ h.1, h.2);
         sight = λ v lacks h. stay v h;
-        kept = record { reached = meets.reached; going = meets.going; fits = meets.fits; anchors = meets.anchors; opened = meets.opened; limited = meets.limited; beyond = meets.beyond; shards = meets.shards; streams = meets.streams };
+        kept = record { reached = meets.reached; stored = meets.stored; going = meets.going; fits = meets.fits; anchors = meets.anchors; opened = meets.opened; limited = meets.limited; beyond = meets.beyond; shards = meets.shards; streams = meets.streams };
       },
       record {
         opened = λ k r e. opened;
@@ -77,9 +78,9 @@ one_raised true e = refl
 one_raised false e = absurd (omega arith)
 
 -- any seat looks whether the stop is raised
-pub looks_stop : (origin : Plain) (id : ℕ) (m : Sat) (st : Step (Option Part)) → Allows (Rule origin) (part_count origin.load) id m (stop_word origin.load) (λ n. n) (knew (λ n. record m.0 { found = n == 1 || m.0.found }) st m)
-looks_stop origin id m st =
-    loads_word (IsPart origin.load) (IsRole origin.load) (word_of origin.load) hand_of has (Sees origin) (Meets origin) (part_count origin.load) (origin.load.streams + origin.load.streams + 1) id (origin.load.streams + origin.load.streams) m.0 m.1 (omega arith)
+pub looks_stop : (origin : Plain) {style : Style} (id : ℕ) (m : Sat) (st : Step (Option Part)) → Allows (Rule origin style) (part_count origin.load) id m (stop_word origin.load) (λ n. n) (knew (λ n. record m.0 { found = n == 1 || m.0.found }) st m)
+looks_stop origin {style} id m st =
+    loads_word (IsPart origin.load) (IsRole origin.load) (word_of origin.load) hand_of has (Sees origin) (Meets origin style) (part_count origin.load) (origin.load.streams + origin.load.streams + 1) id (origin.load.streams + origin.load.streams) m.0 m.1 (omega arith)
     (λ n. record m.0 { found = n == 1 || m.0.found }) (λ n. refl) (λ n u. refl)
     (λ c meets h. record {
       opened = h.opened;

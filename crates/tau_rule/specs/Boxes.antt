@@ -21,8 +21,9 @@ use Rattle.tau_core.specs.declared.state.Load.{Load}
 use Rattle.tau_core.specs.View.{setting_of}
 use Rattle.tau_rule.specs.Role.{Managed, Working, Managing, Role}
 use Rattle.tau_rule.specs.Knows.{Knows}
-use Rattle.tau_machine.specs.Waits.{BusyHasHolder}
-use Rattle.tau_rule.specs.Rule.{Now, Sees, Meets, IsOutbox, anchors_at, outbox_part, manager_role}
+use Rattle.tau_occ.specs.declared.style.Style.{Style}
+use Rattle.tau_rule.specs.Holders.{BusyHasCause}
+use Rattle.tau_rule.specs.Rule.{Now, Sees, Meets, PersistsNone, IsOutbox, anchors_at, outbox_part, manager_role}
 use Rattle.tau_rule.specs.Steps.{Sat, handed, first_role, worker_in, next_worker}
 use Rattle.tau_rule.specs.declared.part.Part.{Part}
 use Rattle.tau_rule.specs.declared.part.Part.TheVariants as part
@@ -39,11 +40,11 @@ BoxOf = PlainOutbox × PlainPending
 abbrev pub with_box : Role → Worker → ℕ × ℕ → Role
 with_box x wk spare = record x { share = Working wk; spare = spare }
 
--- the event, which is no Busy without a holder, leads from every state that this seat may see, with this worker and this outbox, to one in which they are these
+-- in either style the event, which is no Busy without a cause, leads from every state that this seat may see, with this worker and this outbox, to one in which they are these
 abbrev pub StepsBox : Plain → Event → Knows → ℕ → Worker → Worker → PlainOutbox × PlainPending → PlainOutbox × PlainPending → Type 0
 StepsBox origin e v w wk wk' b b' =
-    (c : Now) → Meets origin c → Sees origin c v → c.core.workers w ≡ wk → IsOutbox origin.load b.0 b.1 (anchors_at c.core) (c.core.outboxes w) →
-    (box : Outbox) × (new : List (Act Txn)) × Leads (setting_of origin.load) e c.core (with_outbox (with_worker c.core w wk') w box) new × IsOutbox origin.load b'.0 b'.1 (anchors_at c.core) box × BusyHasHolder (setting_of origin.load) e c.core
+    (style : Style) (c : Now) → Meets origin style c → Sees origin c v → c.core.workers w ≡ wk → IsOutbox origin.load b.0 b.1 (anchors_at c.core) (c.core.outboxes w) →
+    (box : Outbox) × (new : List (Act Txn)) × Leads (setting_of origin.load) e c.core (with_outbox (with_worker c.core w wk') w box) new × IsOutbox origin.load b'.0 b'.1 (anchors_at c.core) box × BusyHasCause (setting_of origin.load) style e c.core
 
 -- the seat has its outbox in hand, and this event leaves it so
 pub record GivesBox (origin : Plain) (e : Event) (m : Sat) (q : Part) (w : ℕ) (wk' : Worker) (spare : ℕ × ℕ) : Type 0 where
@@ -62,6 +63,7 @@ pub record GivesBox (origin : Plain) (e : Event) (m : Sat) (q : Part) (w : ℕ) 
   pub records : spare.0 ≤ after.0.room
   pub calls : spare.1 ≤ after.1.room
   pub steps : StepsBox origin e m.0 w worker wk' before after
+  pub none : PersistsNone e
 
 -- what the seat knows then
 abbrev pub told_box : Load → Knows → PlainTxn → ℕ × ℕ → Knows
@@ -82,6 +84,7 @@ pub record GivesOutbox (origin : Plain) (e : Event) (m : Sat) (b : BoxOf) (w : �
   pub records : spare.0 ≤ b.0.room
   pub calls : spare.1 ≤ b.1.room
   pub steps : StepsBox origin e m.0 w worker (next_worker origin.load worker t) before b
+  pub none : PersistsNone e
 
 -- the call in hand has this place, and its bytes are those of its record, above the anchor that the seat read last or above none
 pub record IsToPost (origin : Plain) (m : Sat) (t : PlainTxn) (start : ℕ) : Type 0 where
@@ -122,4 +125,4 @@ pub record GivesGathered (origin : Plain) (m : Sat) (q : Part) (w j : ℕ) (take
 
 -- what the manager knows then
 abbrev pub gathered_by : Managed → List Piece → Managed
-gathered_by g taken = record { taken = g.taken ++ taken; gathered = g.gathered + length (bytes_of taken); anchors = g.anchors; own = g.own }
+gathered_by g taken = record g { taken = g.taken ++ taken; gathered = g.gathered + length (bytes_of taken) }

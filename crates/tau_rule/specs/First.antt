@@ -9,7 +9,7 @@ abbrev pub worker_share : Plain → ℕ → Share
 worker_share origin u = Working (worker_at origin u)
 
 abbrev pub manager_share : Plain → ℕ → Share
-manager_share origin u = Managing (record { taken = []; gathered = slice_index origin.load.opening.ends (u - origin.load.workers); anchors = []; own = [] })
+manager_share origin u = Managing (record { taken = []; gathered = slice_index origin.load.opening.ends (u - origin.load.workers); anchors = []; own = []; stored = [] })
 
 abbrev pub clerk_share : Plain → Share
 clerk_share origin = Clerking (replicate origin.load.workers [])

@@ -1,8 +1,14 @@
 -- What a seat knows.
 use Rattle.std.specs.Prelude.{ℕ, Bool, List, [], Option, None, false}
 use Rattle.tau_core.specs.State.{Plain}
+use Rattle.tau_occ.specs.declared.style.Style.{Style}
 use Rattle.tau_rule.specs.Role.{Role}
 use Rattle.tau_rule.specs.declared.part.Part.{Part}
+
+-- what the desk was opened with: the core as it was then, and the style of the workers
+pub record PlainOrigin : Type 0 where
+  pub value : Plain
+  pub style : Style
 
 pub record Knows : Type 0 where
   -- the core with which the desk was opened, none of a seat that is spent

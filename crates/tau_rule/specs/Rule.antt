@@ -10,10 +10,11 @@ use Rattle.tau_outbox.specs.Pieces.{PlainOutbox}
 use Rattle.tau_ack.specs.Pending.{PlainPending}
 use Rattle.tau_shown.specs.Shown.{Shown}
 use Rattle.tau_machine.specs.Runs.{Run}
-use Rattle.tau_machine.specs.Events.{Event}
+use Rattle.tau_machine.specs.Events.{Event, Persist}
 use Rattle.tau_machine.specs.Hands.{Txn}
-use Rattle.tau_model.specs.History.{Act}
+use Rattle.tau_model.specs.History.{Act, Member}
 use Rattle.tau_core.specs.declared.state.Load.{Load}
+use Rattle.tau_occ.specs.declared.style.Style.{Style}
 use Rattle.tau_core.specs.Opens.{Opened, nothing}
 use Rattle.tau_core.specs.Parts.{nobody, no_shard}
 use Rattle.tau_core.specs.State.{Plain}
@@ -25,11 +26,12 @@ use Rattle.tau_rule.specs.Holders.{LeadHeld}
 use Rattle.tau_rule.specs.declared.part.Part.{Part}
 use Rattle.tau_rule.specs.declared.part.Part.TheVariants as part
 
--- the state that is shown: that of the core; which actors have raised the stop; and how much room the outbox of each worker has at least
+-- the state that is shown: that of the core; which actors have raised the stop; how much room the outbox of each worker has at least; and which persisted positions were stored of each stream
 pub record Now : Type 0 where
   pub core : Core
   pub raised : ℕ → Bool
   pub spare : ℕ → ℕ × ℕ
+  pub stored : ℕ → List ℕ
 
 abbrev pub anchors_at : Core → ℕ → List (List ℕ)
 anchors_at s j = (s.streams j).anchors
@@ -61,20 +63,21 @@ IsPart l k (part.Shard b) c = (k < SHARDS) × (c.core.shards k ≡ shard_of b.va
 IsPart l k (part.Outbox o p) c = (w : ℕ) × (k ≡ outbox_part w) × (w < l.workers) × IsOutbox l o.value p.value (anchors_at c.core) (c.core.outboxes w) × ((c.spare w).0 ≤ o.value.room) × ((c.spare w).1 ≤ p.value.room)
 IsPart l k (part.Anchor number lv) c = (j : ℕ) × (k ≡ anchor_part l j) × (j < l.streams) × Names l j (anchors_at c.core j) number lv.value × (length lv.value ≡ l.streams)
 
-pub record IsManaged (l : Load) (j : ℕ) (g : Managed) (s : Core) : Type 0 where
-  pub moved : Paired (IsPieceOf l (anchors_at s)) g.taken (s.streams j).moved
-  pub gathered : slice_index s.gathered j ≡ g.gathered
-  pub anchors : (s.streams j).anchors ≡ g.anchors
-  pub own : Paired (IsPieceOf l (anchors_at s)) g.own (s.streams j).posted
+pub record IsManaged (l : Load) (j : ℕ) (g : Managed) (c : Now) : Type 0 where
+  pub moved : Paired (IsPieceOf l (anchors_at c.core)) g.taken (c.core.streams j).moved
+  pub gathered : slice_index c.core.gathered j ≡ g.gathered
+  pub anchors : (c.core.streams j).anchors ≡ g.anchors
+  pub own : Paired (IsPieceOf l (anchors_at c.core)) g.own (c.core.streams j).posted
+  pub stored : c.stored j ≡ g.stored
 
-abbrev pub IsShare : Load → ℕ → Share → Core → Type 0
-IsShare l u (Working wk) s = (u < l.workers) × (s.workers u ≡ wk)
-IsShare l u (Managing g) s = (j : ℕ) × (u ≡ manager_role l j) × (j < l.streams) × IsManaged l j g s
-IsShare l u (Clerking acked) s = (u ≡ clerk_role l) × ((w : ℕ) → w < l.workers → s.acked w ≡ slice_index_or acked w [])
+abbrev pub IsShare : Load → ℕ → Share → Now → Type 0
+IsShare l u (Working wk) c = (u < l.workers) × (c.core.workers u ≡ wk)
+IsShare l u (Managing g) c = (j : ℕ) × (u ≡ manager_role l j) × (j < l.streams) × IsManaged l j g c
+IsShare l u (Clerking acked) c = (u ≡ clerk_role l) × ((w : ℕ) → w < l.workers → c.core.acked w ≡ slice_index_or acked w [])
 
 -- an actor's part is that of the core
 abbrev pub IsRole : Load → ℕ → Role → Now → Type 0
-IsRole l u r c = IsShare l u r.share c.core × (c.raised u ≡ r.raised) × (c.spare u ≡ r.spare)
+IsRole l u r c = IsShare l u r.share c × (c.raised u ≡ r.raised) × (c.spare u ≡ r.spare)
 
 -- whether one of the first so many actors has raised the stop
 abbrev pub is_raised : ℕ → (ℕ → Bool) → Bool
@@ -124,16 +127,26 @@ pub record IsLimited (l : Load) : Type 0 where
   pub low : (j : ℕ) → j < l.streams → slice_index l.opening.ends j ≤ MAX_BEGIN
   pub wide : length l.opening.ends ≡ l.streams
 
--- events lead there from the core with which the desk was opened, and each worker that was Busy by one was barred
-pub record IsReached (origin : Plain) (s : Core) : Type 0 where
+-- events lead there from the core with which the desk was opened, and each worker that was Busy by one had a cause
+pub record IsReached (origin : Plain) (style : Style) (s : Core) : Type 0 where
   pub events : List Event
   pub joined : List (Act Txn)
   pub run : Run (setting_of origin.load) (core_of origin nothing) events joined s
-  pub held : LeadHeld (setting_of origin.load) events (core_of origin nothing) s joined
+  pub held : LeadHeld (setting_of origin.load) style events (core_of origin nothing) s joined
+
+-- the event persists nothing
+abbrev pub PersistsNone : Event → Type 0
+PersistsNone (Persist j upto) = ⊥
+PersistsNone _ = Unit {0}
+
+-- these lists have each position of their stream that the events persist
+abbrev pub HavePersisted : (ℕ → List ℕ) → List Event → Type 0
+HavePersisted stored events = (j upto : ℕ) → Member (Persist j upto) events → Member upto (stored j)
 
 -- events lead there from the opening, and no stream was stopped
-pub record Meets (origin : Plain) (c : Now) : Type 0 where
-  pub reached : IsReached origin c.core
+pub record Meets (origin : Plain) (style : Style) (c : Now) : Type 0 where
+  pub reached : IsReached origin style c.core
+  pub stored : HavePersisted c.stored reached.events
   pub going : (j : ℕ) → (c.core.streams j).stop ≡ None
   -- each stream has grown by the records of the committed calls and by its anchors
   pub fits : (j : ℕ) → j < origin.load.streams → slice_index c.core.ends j ≤ slice_index origin.load.opening.ends j + LONGEST * length reached.joined + MAX_ANCHOR * length (c.core.streams j).anchors
@@ -145,5 +158,5 @@ pub record Meets (origin : Plain) (c : Now) : Type 0 where
   pub shards : (i : ℕ) → SHARDS ≤ i → c.core.shards i ≡ no_shard
   pub streams : (j : ℕ) → origin.load.streams ≤ j → (c.core.streams j).anchors ≡ []
 
-abbrev pub Rule : Plain → State (Option Part) Knows → Type 0
-Rule origin = Shown (IsPart origin.load) (IsRole origin.load) (word_of origin.load) hand_of has (Sees origin) (Meets origin) (part_count origin.load) (origin.load.streams + origin.load.streams + 1)
+abbrev pub Rule : Plain → Style → State (Option Part) Knows → Type 0
+Rule origin style = Shown (IsPart origin.load) (IsRole origin.load) (word_of origin.load) hand_of has (Sees origin) (Meets origin style) (part_count origin.load) (origin.load.streams + origin.load.streams + 1)

@@ -15,8 +15,9 @@ use Rattle.tau_core.specs.View.{setting_of}
 use Rattle.tau_core.specs.declared.state.Load.{Load}
 use Rattle.tau_rule.specs.Role.{Share, Working, Managing, Clerking, Role}
 use Rattle.tau_rule.specs.Knows.{Knows}
-use Rattle.tau_machine.specs.Waits.{BusyHasHolder}
-use Rattle.tau_rule.specs.Rule.{Now, IsPart, IsRole, IsReached, Sees, Meets, Rule, has, part_count}
+use Rattle.tau_occ.specs.declared.style.Style.{Style}
+use Rattle.tau_rule.specs.Holders.{BusyHasCause}
+use Rattle.tau_rule.specs.Rule.{Now, IsPart, IsRole, IsReached, PersistsNone, Sees, Meets, Rule, has, part_count}
 use Rattle.tau_rule.specs.declared.part.Part.{Part}
 use Rattle.tau_rule.specs.declared.part.Part.TheVariants as part
 
@@ -25,8 +26,9 @@ Sat = Me (Option Part) Knows
 
 -- the part and the seat's own parts are of one state that events lead to from the opening
 pub record Agrees (origin : Plain) (v : Knows) (k : ℕ) (p : Part) : Type 0 where
+  pub style : Style
   pub state : Now
-  pub meets : Meets origin state
+  pub meets : Meets origin style state
   pub part : IsPart origin.load k p state
   pub roles : (u : ℕ) (r : Role) → has u v ≡ Some r → IsRole origin.load u r state
   pub seen : Sees origin state v
@@ -62,10 +64,10 @@ shard_in (part.Outbox o p) = None
 shard_in (part.Anchor number lv) = None
 
 -- Whatever else the state is, the event leads from a state with this worker and this shard to the one in which they are these;
--- a worker that is Busy by it is barred.
-abbrev pub StepsShard : Plain → Event → ℕ → Worker → Worker → ℕ → Shard → Shard → Type 0
-StepsShard origin e w wk wk' k sh sh' =
-    (s : Core) → IsReached origin s → s.workers w ≡ wk → s.shards k ≡ sh → (new : List (Act Txn)) × Leads (setting_of origin.load) e s (with_shard (with_worker s w wk') k sh') new × BusyHasHolder (setting_of origin.load) e s
+-- a worker that is Busy by it has a cause.
+abbrev pub StepsShard : Plain → Style → Event → ℕ → Worker → Worker → ℕ → Shard → Shard → Type 0
+StepsShard origin style e w wk wk' k sh sh' =
+    (s : Core) → IsReached origin style s → s.workers w ≡ wk → s.shards k ≡ sh → (new : List (Act Txn)) × Leads (setting_of origin.load) e s (with_shard (with_worker s w wk') k sh') new × BusyHasCause (setting_of origin.load) style e s
 
 -- what a worker's seat knows when its part is at home
 abbrev pub handed : Knows → ℕ → Role → Knows
@@ -111,7 +113,7 @@ pub record IsReady (origin : Plain) (w : ℕ) (m : Sat) (t : PlainTxn) : Type 0 
   pub agrees : (begun origin.load.streams worker).hand ≡ hand_in origin.load.procs t
 
 -- the seat has the shard k in hand, and this event of worker w leaves it so, with this call in hand
-pub record GivesShard (origin : Plain) (e : Event) (m : Sat) (k : ℕ) (q : PlainShard) (w : ℕ) (t : PlainTxn) : Type 0 where
+pub record GivesShard (origin : Plain) (style : Style) (e : Event) (m : Sat) (k : ℕ) (q : PlainShard) (w : ℕ) (t : PlainTxn) : Type 0 where
   pub taken : Part
   pub role : Role
   pub worker : Worker
@@ -122,7 +124,8 @@ pub record GivesShard (origin : Plain) (e : Event) (m : Sat) (k : ℕ) (q : Plai
   pub share : role.share ≡ Working worker
   pub was : shard_in taken ≡ Some before
   pub there : w < origin.load.workers
-  pub steps : StepsShard origin e w worker (next_worker origin.load worker t) k before (shard_of q)
+  pub steps : StepsShard origin style e w worker (next_worker origin.load worker t) k before (shard_of q)
+  pub none : PersistsNone e
 
 -- what a seat knows that has given its part back
 abbrev pub idle : Knows → Knows
@@ -155,5 +158,5 @@ abbrev pub Took : Plain → ℕ → Sat → Sat → Type 0
 Took origin k m m' = (p : Part) × (m' ≡ (holding k m.0 p, (k, Some p) ∷ [])) × Agrees origin m.0 k p
 
 -- the part k that the seat has in hand may come home as q, and then it knows this
-abbrev pub ComesHome : Plain → ℕ → Knows → ℕ → Part → Knows → Type 0
-ComesHome origin id v k q knows = Allows (Rule origin) (part_count origin.load) id (v, (k, Some q) ∷ []) (8 * k) (λ _. 0) (λ found m. m ≡ (knows, []))
+abbrev pub ComesHome : Plain → Style → ℕ → Knows → ℕ → Part → Knows → Type 0
+ComesHome origin style id v k q knows = Allows (Rule origin style) (part_count origin.load) id (v, (k, Some q) ∷ []) (8 * k) (λ _. 0) (λ found m. m ≡ (knows, []))

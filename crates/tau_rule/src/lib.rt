@@ -6,5 +6,6 @@ mod view;
 
 pub use part::Part;
 pub use view::{
-    Give, JoinAs, JoinIn, Know, Look, OneCore, Place, Seat, SplitOff, Store, Take, Told, View,
+    Give, JoinAs, JoinIn, Know, Look, OneCore, Origin, Place, Seat, SplitOff, Store, Take, Told,
+    View,
 };

@@ -4,6 +4,7 @@ use atomic_table::{Play, TableRule};
 use std::marker::{Brand, Model, PhantomData};
 use std::snapshot::Snapshot;
 use tau_core::Core;
+use tau_occ::Style;
 
 /// What a seat knows. No value of it is made.
 pub struct View {
@@ -21,14 +22,29 @@ impl Model for View {
 
 pub type Seat = atomic_table::Seat<Option<Part>, View>;
 
+/// What a desk is opened with: the core as it is then, and the style of its workers.
+#[derive(Drop)]
+pub struct Origin {
+    pub core: Snapshot<Core>,
+    pub style: Style,
+}
+
+impl Model for Origin {
+    ghost use Rattle.tau_rule.specs.Knows.{PlainOrigin};
+
+    ghost Value = { PlainOrigin };
+
+    ghost view = { λ o. record { value = o.core.value; style = o.style } };
+}
+
 /// The words, the parts and the views show one state that events lead to from the core with which the desk was opened.
 pub struct OneCore;
 
-impl TableRule<Option<Part>, View, Snapshot<Core>> for OneCore {
+impl TableRule<Option<Part>, View, Origin> for OneCore {
     ghost use Rattle.tau_rule.specs.First.{first_view};
     ghost use Rattle.tau_rule.specs.Rule.{Rule};
 
-    ghost holds = { λ key. Rule key.value };
+    ghost holds = { λ key. Rule key.value key.style };
 
     ghost first = { λ key. first_view key.value };
 }
