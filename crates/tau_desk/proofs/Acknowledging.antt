@@ -4,7 +4,7 @@ use Rattle.std.specs.Prelude.{Some, None, slice_index_or, slice_set}
 use Rattle.std.proofs.lemmas.Bool.{cases_eq}
 use Rattle.tau_base.specs.Vectors.{AtMost}
 use Rattle.tau_machine.specs.Shard.{at}
-use Rattle.tau_machine.specs.State.{Core, Outbox, Ticket}
+use Rattle.tau_machine.specs.State.{Outbox, Ticket}
 use Rattle.tau_machine.specs.Events.{Ack, Leads, with_outbox}
 use Rattle.tau_machine.proofs.At.{at_same, at_other}
 use Rattle.tau_outbox.specs.declared.Piece.{Piece}
@@ -16,6 +16,7 @@ use Rattle.tau_core.specs.State.{Plain}
 use Rattle.tau_core.specs.View.{setting_of, tickets}
 use Rattle.tau_core.specs.declared.state.Load.{Load}
 use Rattle.tau_shown.proofs.Steps.{gives_part}
+use Rattle.tau_occ.specs.declared.style.Style.{Style}
 use Rattle.tau_rule.specs.Role.{Clerking, Managing, Role, Share, Working}
 use Rattle.tau_rule.specs.Knows.{Knows}
 use Rattle.tau_rule.specs.Rule.{IsOutbox, IsPart, IsRole, IsShare, Meets, Now, Sees, anchors_at, clerk_role, hand_of, has, manager_role, outbox_part, part_count, word_of}
@@ -24,7 +25,7 @@ use Rattle.tau_rule.specs.Boxes.{BoxOf, box_in}
 use Rattle.tau_rule.specs.declared.part.Part.{Part}
 use Rattle.tau_rule.specs.declared.part.Part.TheVariants as part
 use Rattle.tau_rule.proofs.Gives.{one_origin}
-use Rattle.tau_rule.proofs.Turns.{Turn, alone, more, one_role, reached_on, role_alone}
+use Rattle.tau_rule.proofs.Turns.{Turn, alone, more, one_role, reached_on, role_alone, stored_on}
 use Rattle.tau_rule.proofs.Boxes.{box_part, part_box, part_rooms}
 use Rattle.tau_desk.specs.Seats.{IsClerkSeat}
 use Rattle.tau_desk.specs.Manages.{GivesAcked, acked_in, acked_in_share, told_acked}
@@ -37,13 +38,13 @@ ticket_of call = record { number = call.number; lv = call.lv }
 abbrev acked_with : List (List Ticket) → ℕ → Waiting → List (List Ticket)
 acked_with acked w call = slice_set acked w (slice_index_or acked w [] ++ ticket_of call ∷ [])
 
-module _ (origin : Plain) (c : Now) (seen : List ℕ) (w : ℕ) (call : Waiting) (b b' : BoxOf) (acked : List (List Ticket)) (old : Role) (low : w < origin.load.workers) (wide : length acked ≡ origin.load.workers) (pieces : b'.0.pieces ≡ b.0.pieces) (t : TakesFirst seen b.1.calls call b'.1.calls)
-    (meets : Meets origin c) (licensed : AtMost seen c.core.plv) (lists : (u : ℕ) → u < origin.load.workers → c.core.acked u ≡ slice_index_or acked u []) (box : IsOutbox origin.load b.0 b.1 (anchors_at c.core) (c.core.outboxes w)) where
+module _ (origin : Plain) {style : Style} (c : Now) (seen : List ℕ) (w : ℕ) (call : Waiting) (b b' : BoxOf) (acked : List (List Ticket)) (old : Role) (low : w < origin.load.workers) (wide : length acked ≡ origin.load.workers) (pieces : b'.0.pieces ≡ b.0.pieces) (t : TakesFirst seen b.1.calls call b'.1.calls)
+    (meets : Meets origin style c) (licensed : AtMost seen c.core.plv) (lists : (u : ℕ) → u < origin.load.workers → c.core.acked u ≡ slice_index_or acked u []) (box : IsOutbox origin.load b.0 b.1 (anchors_at c.core) (c.core.outboxes w)) where
   abbrev box_then : Outbox
   box_then = record (c.core.outboxes w) { pending = tickets t.front ++ tickets t.back }
 
   abbrev acked_now : Now
-  acked_now = record { core = record (with_outbox c.core w box_then) { acked = at w (c.core.acked w ++ ticket_of call ∷ []) c.core.acked }; raised = c.raised; spare = c.spare }
+  acked_now = record { core = record (with_outbox c.core w box_then) { acked = at w (c.core.acked w ++ ticket_of call ∷ []) c.core.acked }; raised = c.raised; spare = c.spare; stored = c.stored }
 
   ack_leads : Leads (setting_of origin.load) (Ack w seen) c.core acked_now.core []
   ack_leads = (
@@ -80,15 +81,15 @@ module _ (origin : Plain) (c : Now) (seen : List ℕ) (w : ℕ) (call : Waiting)
       (h.0, h.1, h.2, subst (λ (z : Outbox). IsOutbox origin.load o.value p.value (anchors_at c.core) z) (sym (at_other w box_then c.core.outboxes h.0 other)) h.3, h.4, h.5)
   parts_stay k (part.Anchor number lv) apart h = h
 
-  shares_stay : (u : ℕ) (x : Share) → (u ≡ clerk_role origin.load → ⊥) → IsShare origin.load u x c.core → IsShare origin.load u x acked_now.core
+  shares_stay : (u : ℕ) (x : Share) → (u ≡ clerk_role origin.load → ⊥) → IsShare origin.load u x c → IsShare origin.load u x acked_now
   shares_stay u (Working x) apart h = h
-  shares_stay u (Managing g) apart h = (h.0, h.1, h.2, record { moved = h.3.moved; gathered = h.3.gathered; anchors = h.3.anchors; own = h.3.own })
+  shares_stay u (Managing g) apart h = (h.0, h.1, h.2, record { moved = h.3.moved; gathered = h.3.gathered; anchors = h.3.anchors; own = h.3.own; stored = h.3.stored })
   shares_stay u (Clerking other) apart h = absurd (apart h.0)
 
   sight_stays : (v : Knows) → Sees origin c v → Sees origin acked_now v
   sight_stays v h = record { opened = h.opened; wide = h.wide; low = h.low; own = h.own; read = h.read; found = h.found }
 
-  ack_turn : c.raised (clerk_role origin.load) ≡ old.raised → c.spare (clerk_role origin.load) ≡ old.spare → Turn origin c acked_now (outbox_part w) (clerk_role origin.load) (record old { share = Clerking (acked_with acked w call) })
+  ack_turn : c.raised (clerk_role origin.load) ≡ old.raised → c.spare (clerk_role origin.load) ≡ old.spare → Turn origin style c acked_now (outbox_part w) (clerk_role origin.load) (record old { share = Clerking (acked_with acked w call) })
   ack_turn raised spare = record {
     parts = λ k q lt apart h. parts_stay k q apart h;
     mine = ((refl, lists_then), raised, spare);
@@ -96,6 +97,7 @@ module _ (origin : Plain) (c : Now) (seen : List ℕ) (w : ℕ) (call : Waiting)
     sight = λ v lacks h. sight_stays v h;
     kept = record {
       reached = reached_on origin (Ack w seen) c.core acked_now.core [] meets.reached ack_leads tt;
+      stored = stored_on c.stored meets.reached.events (Ack w seen) meets.stored tt;
       going = meets.going;
       fits = λ j lt. more _ _ (length meets.reached.joined) (length (meets.reached.joined ++ [])) _ (meets.fits j lt) (let a = length-append meets.reached.joined [] in omega arith);
       anchors = meets.anchors;
@@ -118,22 +120,22 @@ clerking_sees origin c v x y opened is h = record {
   found = h.found;
 }
 
-share_clerk : (origin : Plain) (u : ℕ) (x : Share) (acked : List (List Ticket)) (s : Core) → x ≡ Clerking acked → IsShare origin.load u x s → (w : ℕ) → w < origin.load.workers → s.acked w ≡ slice_index_or acked w []
-share_clerk origin u x acked s is h = (subst (λ (y : Share). IsShare origin.load u y s) is h).1
+share_clerk : (origin : Plain) (u : ℕ) (x : Share) (acked : List (List Ticket)) (c : Now) → x ≡ Clerking acked → IsShare origin.load u x c → (w : ℕ) → w < origin.load.workers → c.core.acked w ≡ slice_index_or acked w []
+share_clerk origin u x acked c is h = (subst (λ (y : Share). IsShare origin.load u y c) is h).1
 
 -- an outbox comes home of which the clerk has acknowledged this call
-pub gives_acked : (origin : Plain) (id : ℕ) (m : Sat) (q : Part) (b : BoxOf) (w : ℕ) (call : Waiting) → box_in q ≡ Some b → (g : GivesAcked origin.load m b w call) → m.0.opened ≡ Some origin →
-    ComesHome origin id m.0 (outbox_part w) q (handed m.0 (clerk_role origin.load) (record g.role { share = Clerking (acked_with g.acked w call) }))
-gives_acked origin id m q b w call is g opened =
+pub gives_acked : (origin : Plain) {style : Style} (id : ℕ) (m : Sat) (q : Part) (b : BoxOf) (w : ℕ) (call : Waiting) → box_in q ≡ Some b → (g : GivesAcked origin.load m b w call) → m.0.opened ≡ Some origin →
+    ComesHome origin style id m.0 (outbox_part w) q (handed m.0 (clerk_role origin.load) (record g.role { share = Clerking (acked_with g.acked w call) }))
+gives_acked origin {style} id m q b w call is g opened =
     let v : Knows = m.0 in
     let u : ℕ = clerk_role origin.load in
     let y : Role = record g.role { share = Clerking (acked_with g.acked w call) } in
-    gives_part (IsPart origin.load) (IsRole origin.load) (word_of origin.load) hand_of has (Sees origin) (Meets origin) (part_count origin.load) (origin.load.streams + origin.load.streams + 1) id (outbox_part w) v (handed v u y) g.taken q u g.role y g.held (one_role v u g.role g.roles) refl
+    gives_part (IsPart origin.load) (IsRole origin.load) (word_of origin.load) hand_of has (Sees origin) (Meets origin style) (part_count origin.load) (origin.load.streams + origin.load.streams + 1) id (outbox_part w) v (handed v u y) g.taken q u g.role y g.held (one_role v u g.role g.roles) refl
     (role_alone u y) (λ a z h. alone u y a z h)
     (λ c meets part mine seen.
     let box = part_box origin c w g.taken g.before g.was part in
     let rooms = part_rooms origin c w g.taken g.before g.was part in
-    let lists = share_clerk origin u g.role.share g.acked c.core g.share mine.0 in
+    let lists = share_clerk origin u g.role.share g.acked c g.share mine.0 in
     let c' : Now = acked_now origin c v.seen w call g.before b g.acked g.role g.there g.wide g.pieces g.takes meets seen.low lists box in (
       c',
       ack_turn origin c v.seen w call g.before b g.acked g.role g.there g.wide g.pieces g.takes meets seen.low lists box mine.1 mine.2,

@@ -20,6 +20,7 @@ use Rattle.tau_core.specs.State.{Plain}
 use Rattle.tau_core.proofs.Lists.{member_snoc}
 use Rattle.tau_core.proofs.AnchorNames.{end_low}
 use Rattle.tau_core.proofs.Spellings.{Split, paired_split}
+use Rattle.tau_occ.specs.declared.style.Style.{Style}
 use Rattle.tau_rule.specs.Anchoring.{IsToAnchor, anchored, anchored_view}
 use Rattle.tau_rule.specs.Places.{got_place}
 use Rattle.tau_rule.specs.Role.{Managed, Managing, Role}
@@ -62,11 +63,11 @@ to_anchor key m j o h seen bytes is wide few spelled room =
       room = subst (λ (l : List (List ℕ)). slice_index key.load.opening.anchors.items j + length l < 2 ^ 32 - 1) (sym s.anchors) room;
     }
 
-pub anchors_as : (origin : Plain) (slots id j word size : ℕ) (m : Sat) (bytes : List ℕ) (p : IsToAnchor origin j m bytes) (told : ℕ → Knows) → slots ≡ part_count origin.load → word ≡ 8 * (part_count origin.load + j) → size ≡ length bytes → told ≡ told_anchored m.0 bytes →
-    Allows (Rule origin) slots id m word (λ n. (n + size) % 2 ^ 64) (got_place told (step slots word size 0 none) m)
-anchors_as origin slots id j word size m bytes p told es is sized same =
+pub anchors_as : (origin : Plain) {style : Style} (slots id j word size : ℕ) (m : Sat) (bytes : List ℕ) (p : IsToAnchor origin j m bytes) (told : ℕ → Knows) → slots ≡ part_count origin.load → word ≡ 8 * (part_count origin.load + j) → size ≡ length bytes → told ≡ told_anchored m.0 bytes →
+    Allows (Rule origin style) slots id m word (λ n. (n + size) % 2 ^ 64) (got_place told (step slots word size 0 none) m)
+anchors_as origin {style} slots id j word size m bytes p told es is sized same =
     let knows : told ≡ anchored_view origin.load j p.is.role p.managed bytes m.0 = same ∙ (λ i start. anchored_is m (manager_role origin.load j) p.is.role p.managed bytes start p.is.roles p.is.share i) in
-    subst (λ (z : (ℕ × ℕ) × (ℕ × (ℕ → Knows))). Allows (Rule origin) z.0.0 id m z.0.1 (λ n. (n + z.1.0) % 2 ^ 64) (got_place z.1.1 (step z.0.0 z.0.1 z.1.0 0 none) m)) (λ i. ((sym es i, sym is i), (sym sized i, sym knows i)))
+    subst (λ (z : (ℕ × ℕ) × (ℕ × (ℕ → Knows))). Allows (Rule origin style) z.0.0 id m z.0.1 (λ n. (n + z.1.0) % 2 ^ 64) (got_place z.1.1 (step z.0.0 z.0.1 z.1.0 0 none) m)) (λ i. ((sym es i, sym is i), (sym sized i, sym knows i)))
     (anchors origin j m bytes p id (step (part_count origin.load) (8 * (part_count origin.load + j)) (length bytes) 0 none) refl)
 
 -- the items before the last one end where that starts, or earlier
@@ -94,7 +95,7 @@ own_order key m j k o h bytes start p a =
     let piece : Piece = record { start = start; bytes = bytes } in
     let roles : (told_anchored m.0 bytes start).roles ≡ (u, r) ∷ [] = ap (λ (v : Knows). v.roles) (anchored_is m u h.role s.managed bytes start h.roles s.share) in
     let mine = a.roles u r (one_role (told_anchored m.0 bytes start) u r roles) in
-    let managed : IsManaged key.load j g a.state.core = share_managed key j r.share g a.state refl mine.0 in
+    let managed : IsManaged key.load j g a.state = share_managed key j r.share g a.state refl mine.0 in
     let posted : List Item = (a.state.core.streams j).posted in
     let pair : Paired (IsPieceOf key.load (anchors_at a.state.core)) (o.own.pieces ++ piece ∷ []) posted = subst (λ (ps : List Piece). Paired (IsPieceOf key.load (anchors_at a.state.core)) (ps ++ piece ∷ []) posted) s.own managed.own in
     let cut : Split (IsPieceOf key.load (anchors_at a.state.core)) o.own.pieces (piece ∷ []) posted = paired_split (IsPieceOf key.load (anchors_at a.state.core)) o.own.pieces (piece ∷ []) posted pair in

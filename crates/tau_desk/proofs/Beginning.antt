@@ -20,6 +20,7 @@ use Rattle.tau_core.specs.declared.opening.Opening.{Opening}
 use Rattle.tau_core.specs.Opens.{IsFresh, Opened, catalogue_size, nothing}
 use Rattle.tau_core.specs.Pieces.{IsPieceOf, Paired}
 use Rattle.tau_core.specs.View.{anchors_in, committed_by, core_of, pending_in, seat_worker, shard_in, tickets, worker_at, worker_in}
+use Rattle.tau_occ.specs.declared.style.Style.{Style}
 use Rattle.tau_rule.specs.declared.part.Part.{Part}
 use Rattle.tau_rule.specs.declared.part.Part.TheVariants as part
 use Rattle.tau_rule.specs.First.{clerk_share, first_view, manager_share, outer_share, role_at, roles_below, share_at, worker_share}
@@ -213,7 +214,7 @@ module _ (origin : Plain) (q : Opened origin.load origin) where
         role = role_at origin u;
         is = role_below origin (origin.load.workers + origin.load.streams + 1) u (omega (arith, low));
         stock = record {
-          managed = record { taken = []; gathered = slice_index origin.load.opening.ends (u - origin.load.workers); anchors = []; own = [] };
+          managed = record { taken = []; gathered = slice_index origin.load.opening.ends (u - origin.load.workers); anchors = []; own = []; stored = [] };
           share = up;
           there = low;
           anchors = none;
@@ -275,8 +276,8 @@ module _ (origin : Plain) (q : Opened origin.load origin) where
   part_or d (Some (Some p)) = p
 
   -- the table at the beginning shows the opening
-  pub begins_so : ((j : ℕ) → j < origin.load.streams → slice_index origin.load.opening.ends j ≤ 2 ^ 61) → (n : ℕ) → n ≡ origin.load.streams → (shards boxes anchors : List (Option Part)) (a : EachOf HasShard origin.shards shards) (b : EachOf HasBox origin.seats boxes) (c : EachOf (HasAnchor n) origin.streams anchors) →
-      (ws : List ℕ) (xs : List (Option Part)) (parts : ℕ) → xs ≡ (shards ++ boxes) ++ anchors → parts ≡ length xs → AreFirstWords parts origin.ends origin.plv ws → Rule origin (opening ws xs (first_view origin))
+  pub begins_so : {style : Style} → ((j : ℕ) → j < origin.load.streams → slice_index origin.load.opening.ends j ≤ 2 ^ 61) → (n : ℕ) → n ≡ origin.load.streams → (shards boxes anchors : List (Option Part)) (a : EachOf HasShard origin.shards shards) (b : EachOf HasBox origin.seats boxes) (c : EachOf (HasAnchor n) origin.streams anchors) →
+      (ws : List ℕ) (xs : List (Option Part)) (parts : ℕ) → xs ≡ (shards ++ boxes) ++ anchors → parts ≡ length xs → AreFirstWords parts origin.ends origin.plv ws → Rule origin style (opening ws xs (first_view origin))
   begins_so short n wide shards boxes anchors a b c ws xs parts is many w =
       let count : parts ≡ part_count origin.load = many ∙ ap length is ∙ slot_count n wide shards boxes anchors a b c in
       let all : (k : ℕ) → k < part_count origin.load → (p : Part) × (slice_get xs k ≡ Some (Some p)) × IsPart origin.load k p (now origin q) =

@@ -15,13 +15,13 @@ use Rattle.tau_core.specs.State.{Plain}
 use Rattle.tau_core.specs.View.{again_in, all_numbered, from_on, seat_worker}
 use Rattle.tau_core.specs.Stands.{AreNumbers, SoundStream}
 use Rattle.tau_core.specs.Parts.{AreShown, AtRest, IsOfParts, RestsSeat}
-use Rattle.tau_rule.specs.Role.{Role, Share}
+use Rattle.tau_occ.specs.declared.style.Style.{Style}
+use Rattle.tau_rule.specs.Role.{Role, Share, managed_in_share}
 use Rattle.tau_rule.specs.Rule.{IsPart, IsShare, has, manager_role, outbox_part, part_count}
 use Rattle.tau_rule.specs.declared.part.Part.{Part}
 use Rattle.tau_desk.specs.declared.mark.Mark.{Mark}
 use Rattle.tau_desk.specs.Close.{IsSeatOf, IsStreamOf, PutTogether}
 use Rattle.tau_desk.specs.Ends.{AreResting, IsClosing, IsWhole}
-use Rattle.tau_desk.specs.Manages.{managed_in_share}
 use Rattle.tau_desk.specs.Seats.{PlainHead}
 use Rattle.tau_desk.specs.Shares.{FitsWork, PlainWork, ShowsWorker, own_worker, unbegun}
 use Rattle.tau_desk.specs.Taken.{IsMadeOf, IsSeatFrom, calls_at, settled}
@@ -71,7 +71,7 @@ abbrev taken_in : Option Role → List ℕ
 taken_in None = []
 taken_in (Some r) = bytes_of (managed_in_share r.share).taken
 
-module _ (origin : Plain) (h : PlainHead) (g : HeadAt origin h) (whole : IsWhole h) (rests : AreResting h) (parts : ℕ) (count : parts ≡ part_count origin.load) (words : List ℕ) (slots : List (Option Part)) (k : ClosesAt origin h.me.0 words slots) (q : Plain)
+module _ (origin : Plain) {style : Style} (h : PlainHead) (g : HeadAt origin h) (whole : IsWhole h) (rests : AreResting h) (parts : ℕ) (count : parts ≡ part_count origin.load) (words : List ℕ) (slots : List (Option Part)) (k : ClosesAt origin style h.me.0 words slots) (q : Plain)
     (made : IsMadeOf origin.load parts slots words h.workers h.managers q) where
   abbrev taken : ℕ → List ℕ
   taken j = taken_in (has (manager_role origin.load j) h.me.0)
@@ -112,7 +112,7 @@ module _ (origin : Plain) (h : PlainHead) (g : HeadAt origin h) (whole : IsWhole
       let bytes : taken j ≡ bytes_of f.stock.managed.taken = ap taken_in f.is ∙ ap (λ (s : Share). bytes_of (managed_in_share s).taken) f.stock.share in
       record {
         managed = f.stock.managed;
-        share = subst (λ (s : Share). IsShare origin.load u s k.0.core) f.stock.share (k.4 u f.role f.is).0;
+        share = subst (λ (s : Share). IsShare origin.load u s k.0) f.stock.share (k.4 u f.role f.is).0;
         anchors = r.stream.anchors ∙ sym f.stock.anchors;
         own = ap (λ (o : PlainOutbox). o.pieces) r.stream.own ∙ sym f.stock.own;
         going = r.stream.going;
@@ -168,5 +168,5 @@ module _ (origin : Plain) (h : PlainHead) (g : HeadAt origin h) (whole : IsWhole
   pub are_shown : AreShown q
   are_shown = asked origin k.0 k.1 q taken made.load put
 
-  pub is_closing : (result : Plain) → IsOfParts q result → IsClosing origin h.me.0 result
+  pub is_closing : (result : Plain) → IsOfParts q result → IsClosing origin style h.me.0 result
   is_closing result is = closed origin k.0 k.1 q taken made.load put h.me.0 k.2 k.4 (has_all origin h g whole) result is

@@ -17,6 +17,7 @@ use Rattle.tau_txn.specs.Txn.{PlainTxn}
 use Rattle.tau_core.specs.Plain.{PlainSeat}
 use Rattle.tau_core.specs.State.{Plain}
 use Rattle.tau_core.specs.View.{setting_of, worker_of}
+use Rattle.tau_occ.specs.declared.style.Style.{Style}
 use Rattle.tau_rule.specs.Rule.{IsPart, Now, outbox_part, part_count}
 use Rattle.tau_rule.specs.declared.part.Part.{Part}
 use Rattle.tau_rule.specs.declared.part.Part.TheVariants as part
@@ -43,13 +44,13 @@ box_in origin slots c w (part.Shard b) low txn a e = absurd (let at = a.0 in ome
 box_in origin slots c w (part.Outbox o p) low txn a e = (part.Outbox o p, record { next = 0; again = None; txn = txn; start = 0; left = []; room = 0; outbox = o.value; pending = p.value }, e, (refl, refl))
 box_in origin slots c w (part.Anchor n v) low txn a e = absurd (let at = a.1 in omega (arith, at, low))
 
-module _ (origin : Plain) (h : PlainHead) (g : HeadAt origin h) (whole : IsWhole h) (rests : AreResting h) (parts : ℕ) (count : parts ≡ part_count origin.load) (words : List ℕ) (slots : List (Option Part)) (k : ClosesAt origin h.me.0 words slots) where
+module _ (origin : Plain) {style : Style} (h : PlainHead) (g : HeadAt origin h) (whole : IsWhole h) (rests : AreResting h) (parts : ℕ) (count : parts ≡ part_count origin.load) (words : List ℕ) (slots : List (Option Part)) (k : ClosesAt origin style h.me.0 words slots) where
   abbrev pub state : Now
   state = k.0
 
   -- what a worker has is what the state has
   pub worker_is : (w : ℕ) (o : PlainWork) (e : slice_get h.workers w ≡ Some (Some o)) → state.core.workers w ≡ (g.worker w o e).work.worker
-  worker_is w o e = (let f = g.worker w o e in (share_worker origin w f.role.share f.work.worker state.core f.work.share (k.4 w f.role f.is).0).1)
+  worker_is w o e = (let f = g.worker w o e in (share_worker origin w f.role.share f.work.worker state f.work.share (k.4 w f.role f.is).0).1)
 
   pub calls_are : (w : ℕ) → w < origin.load.workers → calls_at h.workers w ≡ (state.core.workers w).committed
   calls_are w low =

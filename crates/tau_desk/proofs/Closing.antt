@@ -26,6 +26,7 @@ use Rattle.tau_core.specs.View.{setting_of, committed_by, seat_worker, tickets}
 use Rattle.tau_core.specs.Pieces.{IsPieceOf, Paired, Spelled}
 use Rattle.tau_core.specs.Parts.{no_shard, nobody, anchors_of, without_hand, Shows, AreShown, IsOfParts, hidden_of}
 use Rattle.tau_core.proofs.Merged.{in_turn_listed}
+use Rattle.tau_occ.specs.declared.style.Style.{Style}
 use Rattle.tau_rule.specs.Role.{Managed, Share, Working, Managing, Clerking, Role}
 use Rattle.tau_rule.specs.Knows.{Knows}
 use Rattle.tau_rule.specs.Rule.{Now, Rule, anchors_at, IsOutbox, IsPart, IsShare, IsManaged, IsRole, Sees, Meets, has, hand_of, outbox_part, part_count, manager_role, word_of}
@@ -45,7 +46,7 @@ pub record Known (l : Load) (K : List (Act Txn)) (s : Core) : Type 0 where
   pub shards : (i : ℕ) → SHARDS ≤ i → s.shards i ≡ no_shard
   pub streams : (j : ℕ) → l.streams ≤ j → (s.streams j).anchors ≡ []
 
-known_of : (p : Plain) (c : Now) (m : Meets p c) → Known p.load m.reached.joined c.core
+known_of : (p : Plain) {style : Style} (c : Now) (m : Meets p style c) → Known p.load m.reached.joined c.core
 known_of p c m = record {
   inv = reached_invariant p c.core m.reached;
   going = m.going;
@@ -97,10 +98,10 @@ module _ (q : Plain) (c : Now) (taken : ℕ → List ℕ) (K : List (Act Txn)) (
       }
   box_is w x (part.Anchor number lv) h e = absurd e
 
-  managed_is : (j : ℕ) (g : Managed) → IsShare q.load (manager_role q.load j) (Managing g) c.core → IsManaged q.load j g c.core
-  managed_is j g h = (let same : h.0 ≡ j = (let a = h.1 in omega (arith, a)) in subst (λ (i : ℕ). IsManaged q.load i g c.core) same h.3)
+  managed_is : (j : ℕ) (g : Managed) → IsShare q.load (manager_role q.load j) (Managing g) c → IsManaged q.load j g c
+  managed_is j g h = (let same : h.0 ≡ j = (let a = h.1 in omega (arith, a)) in subst (λ (i : ℕ). IsManaged q.load i g c) same h.3)
 
-  stream_is : (j : ℕ) (x : PlainStream) → slice_get q.streams j ≡ Some x → (r : IsStreamOf q.load j c q.gathered (taken j) x) × IsManaged q.load j r.managed c.core
+  stream_is : (j : ℕ) (x : PlainStream) → slice_get q.streams j ≡ Some x → (r : IsStreamOf q.load j c q.gathered (taken j) x) × IsManaged q.load j r.managed c
   stream_is j x e = (let r = t.streams j x e in (r, managed_is j r.managed r.share))
 
   pub shown : Shows q c.core taken
@@ -130,7 +131,7 @@ module _ (q : Plain) (c : Now) (taken : ℕ → List ℕ) (K : List (Act Txn)) (
     no_stops = λ j high. k.going j;
   }
 
-module _ (p : Plain) (c : Now) (m : Meets p c) (q : Plain) (taken : ℕ → List ℕ) (same : q.load ≡ p.load) (t : PutTogether q c taken) where
+module _ (p : Plain) {style : Style} (c : Now) (m : Meets p style c) (q : Plain) (taken : ℕ → List ℕ) (same : q.load ≡ p.load) (t : PutTogether q c taken) where
   here : Known q.load m.reached.joined c.core
   here = subst (λ (l : Load). Known l m.reached.joined c.core) (sym same) (known_of p c m)
 
@@ -153,7 +154,7 @@ module _ (p : Plain) (c : Now) (m : Meets p c) (q : Plain) (taken : ℕ → List
       hand_free q.load.procs x.txn.worker x.txn.hand rest.joined rest.held h (sym is ∙ f)
 
   -- and what close says of it
-  pub closed : (v : Knows) → Sees p c v → ((u : ℕ) (r : Role) → has u v ≡ Some r → IsRole p.load u r c) → HasAll p v → (result : Plain) → IsOfParts q result → IsClosing p v result
+  pub closed : (v : Knows) → Sees p c v → ((u : ℕ) (r : Role) → has u v ≡ Some r → IsRole p.load u r c) → HasAll p v → (result : Plain) → IsOfParts q result → IsClosing p style v result
   closed v sees roles all result is = record {
     state = c;
     meets = m;
@@ -181,17 +182,17 @@ module _ (p : Plain) (c : Now) (m : Meets p c) (q : Plain) (taken : ℕ → List
   }
 
 -- a head that has each role has those of each state
-pub in_range : (p : Plain) (c : Now) (u : ℕ) (share : Share) → IsShare p.load u share c.core → u < p.load.workers + p.load.streams + 1
+pub in_range : (p : Plain) (c : Now) (u : ℕ) (share : Share) → IsShare p.load u share c → u < p.load.workers + p.load.streams + 1
 in_range p c u (Working wk) h = (let a = h.0 in omega (arith, a))
 in_range p c u (Managing g) h = (let a = h.1 in let b = h.2 in omega (arith, a, b))
 in_range p c u (Clerking acked) h = (let a = h.0 in omega (arith, a))
 
 -- the end of the table, of which the head knows this
-abbrev pub ClosesAt : Plain → Knows → List ℕ → List (Option Part) → Type 0
-ClosesAt p v ws xs = Closes (IsPart p.load) (IsRole p.load) (word_of p.load) hand_of has (Sees p) (Meets p) (part_count p.load) (p.load.streams + p.load.streams + 1) v ws xs
+abbrev pub ClosesAt : Plain → Style → Knows → List ℕ → List (Option Part) → Type 0
+ClosesAt p style v ws xs = Closes (IsPart p.load) (IsRole p.load) (word_of p.load) hand_of has (Sees p) (Meets p style) (part_count p.load) (p.load.streams + p.load.streams + 1) v ws xs
 
 -- at the end of the table every part is at home, and shows a state whose roles the head has
-pub ends : (p : Plain) (id : ℕ) (v : Knows) (ws : List ℕ) (xs : List (Option Part)) → hand_of v ≡ None → HasAll p v → Final (SeenBy (Rule p) id v) ws xs → ClosesAt p v ws xs
-ends p id v ws xs idle all final =
-    closes_all (IsPart p.load) (IsRole p.load) (word_of p.load) hand_of has (Sees p) (Meets p) (part_count p.load) (p.load.streams + p.load.streams + 1) id v ws xs idle
+pub ends : (p : Plain) {style : Style} (id : ℕ) (v : Knows) (ws : List ℕ) (xs : List (Option Part)) → hand_of v ≡ None → HasAll p v → Final (SeenBy (Rule p style) id v) ws xs → ClosesAt p style v ws xs
+ends p {style} id v ws xs idle all final =
+    closes_all (IsPart p.load) (IsRole p.load) (word_of p.load) hand_of has (Sees p) (Meets p style) (part_count p.load) (p.load.streams + p.load.streams + 1) id v ws xs idle
     (λ c u x m sees r. all u (in_range p c u x.share r.0)) final

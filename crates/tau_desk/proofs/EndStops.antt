@@ -7,6 +7,7 @@ use Rattle.atomic_table.specs.Table.{Step, step, Allows}
 use Rattle.tau_machine.specs.Shard.{at}
 use Rattle.tau_machine.proofs.At.{at_same, at_other}
 use Rattle.tau_core.specs.State.{Plain}
+use Rattle.tau_occ.specs.declared.style.Style.{Style}
 use Rattle.tau_rule.specs.Role.{Role, role_in}
 use Rattle.tau_rule.specs.Knows.{Knows}
 use Rattle.tau_rule.specs.Rule.{Now, Rule, IsPart, IsRole, Sees, Meets, clerk_role, word_of, hand_of, has, part_count, manager_role, number_if, is_raised}
@@ -20,6 +21,7 @@ use Rattle.tau_desk.specs.Shares.{PlainStock, PlainWork}
 use Rattle.tau_desk.proofs.Closing.{in_range}
 use Rattle.tau_desk.proofs.EndWords.{words_step_of}
 use Rattle.tau_rule.proofs.Stopping.{raises}
+use Rattle.tau_rule.proofs.Turns.{same_share}
 
 -- a role that is there when the first one is raised was there before, and one that was there still is
 was_there : (rs : List (ℕ × Role)) (k : ℕ) (z : Role) → role_in k (first_raised rs) ≡ Some z → (r : Role) × (role_in k rs ≡ Some r)
@@ -54,23 +56,23 @@ pub word_stop : (origin : Plain) (c : Now) → word_of origin.load (stop_at orig
 word_stop origin c = ap (λ (b : Bool). if b then number_if (is_raised (bound origin) c.raised) else (if nat_le (stop_at origin + 1) origin.load.streams then slice_index c.core.ends (stop_at origin) else slice_index c.core.plv (stop_at origin - origin.load.streams)))
     (eq-eqb (stop_at origin) (stop_at origin) refl)
 
-same_raised : (origin : Plain) (c : Now) (f : ℕ → Bool) (k : ℕ) (q : Part) → IsPart origin.load k q c → IsPart origin.load k q (record { core = c.core; raised = f; spare = c.spare })
+same_raised : (origin : Plain) (c : Now) (f : ℕ → Bool) (k : ℕ) (q : Part) → IsPart origin.load k q c → IsPart origin.load k q (record { core = c.core; raised = f; spare = c.spare; stored = c.stored })
 same_raised origin c f k (part.Shard b) h = h
 same_raised origin c f k (part.Outbox o p) h = h
 same_raised origin c f k (part.Anchor n v) h = h
 
 -- with the first of its roles
-stops_first : (origin : Plain) (id u : ℕ) (m : Sat) (x : Role) (rs : List (ℕ × Role)) (st : Step (Option Part)) → m.0.roles ≡ (u, x) ∷ rs →
-    Allows (Rule origin) (part_count origin.load) id m (stop_word origin.load) (λ _. 1) (λ _. knew (λ _. told_head_raised m.0) st m 1)
-stops_first origin id u m x rs st is =
+stops_first : (origin : Plain) {style : Style} (id u : ℕ) (m : Sat) (x : Role) (rs : List (ℕ × Role)) (st : Step (Option Part)) → m.0.roles ≡ (u, x) ∷ rs →
+    Allows (Rule origin style) (part_count origin.load) id m (stop_word origin.load) (λ _. 1) (λ _. knew (λ _. told_head_raised m.0) st m 1)
+stops_first origin {style} id u m x rs st is =
     let y : Role = record x { raised = true } in
     let v : Knows = told_head_raised m.0 in
     let mine_is : has u m.0 ≡ Some x = ap (role_in u) is ∙ first_there u x rs in
-    words_step_of (IsPart origin.load) (IsRole origin.load) (word_of origin.load) hand_of has (Sees origin) (Meets origin) (part_count origin.load) (stop_at origin + 1) id (stop_at origin) m.0 m.1 u x (omega arith) mine_is
+    words_step_of (IsPart origin.load) (IsRole origin.load) (word_of origin.load) hand_of has (Sees origin) (Meets origin style) (part_count origin.load) (stop_at origin + 1) id (stop_at origin) m.0 m.1 u x (omega arith) mine_is
     (λ _. 1) (λ _. v) (λ _. y) (λ _. refl) (λ _. ap (λ l. role_in u (first_raised l)) is ∙ first_there u y rs)
     (λ n k z ne h. ap (role_in k) is ∙ others_there u k x y rs ne ∙ sym (ap (λ l. role_in k (first_raised l)) is) ∙ h)
     (λ c meets mine sees.
-    let c' : Now = record { core = c.core; raised = at u true c.raised; spare = c.spare } in
+    let c' : Now = record { core = c.core; raised = at u true c.raised; spare = c.spare; stored = c.stored } in
     let low : u < bound origin = in_range origin c u x.share mine.0 in
     let up : is_raised (bound origin) c'.raised ≡ true = raises (bound origin) u c.raised low in
     let stay : (v : Knows) → Sees origin c v → Sees origin c' v = (λ v h. record { opened = h.opened; wide = h.wide; low = h.low; own = h.own; read = h.read; found = λ _. up }) in
@@ -78,10 +80,10 @@ stops_first origin id u m x rs st is =
       c',
       record {
         parts = λ k q lt apart h. same_raised origin c (at u true c.raised) k q h;
-        mine = (mine.0, at_same u true c.raised, mine.2);
-        others = λ k z apart h. (h.0, at_other u true c.raised k apart ∙ h.1, h.2);
+        mine = (same_share origin c (at u true c.raised) c.spare u x.share mine.0, at_same u true c.raised, mine.2);
+        others = λ k z apart h. (same_share origin c (at u true c.raised) c.spare k z.share h.0, at_other u true c.raised k apart ∙ h.1, h.2);
         sight = λ v lacks h. stay v h;
-        kept = record { reached = meets.reached; going = meets.going; fits = meets.fits; anchors = meets.anchors; opened = meets.opened; limited = meets.limited; beyond = meets.beyond; shards = meets.shards; streams = meets.streams };
+        kept = record { reached = meets.reached; stored = meets.stored; going = meets.going; fits = meets.fits; anchors = meets.anchors; opened = meets.opened; limited = meets.limited; beyond = meets.beyond; shards = meets.shards; streams = meets.streams };
       },
       record {
         opened = λ k r e. (let o = was_there m.0.roles k r e in after.opened k o.0 o.1);
@@ -98,17 +100,17 @@ stops_first origin id u m x rs st is =
     (λ _. knew (λ _. v) st m 1)
     (λ c meets mine sees. refl)
 
-pub head_stops : (origin : Plain) (id k : ℕ) (m : Sat) (z : Role) (st : Step (Option Part)) → has k m.0 ≡ Some z → Allows (Rule origin) (part_count origin.load) id m (stop_word origin.load) (λ _. 1) (λ _. knew (λ _. told_head_raised m.0) st m 1)
-head_stops origin id k m z st h = by_roles m.0.roles refl
+pub head_stops : (origin : Plain) {style : Style} (id k : ℕ) (m : Sat) (z : Role) (st : Step (Option Part)) → has k m.0 ≡ Some z → Allows (Rule origin style) (part_count origin.load) id m (stop_word origin.load) (λ _. 1) (λ _. knew (λ _. told_head_raised m.0) st m 1)
+head_stops origin {style} id k m z st h = by_roles m.0.roles refl
   where
-    by_roles : (rs : List (ℕ × Role)) → m.0.roles ≡ rs → Allows (Rule origin) (part_count origin.load) id m (stop_word origin.load) (λ _. 1) (λ _. knew (λ _. told_head_raised m.0) st m 1)
+    by_roles : (rs : List (ℕ × Role)) → m.0.roles ≡ rs → Allows (Rule origin style) (part_count origin.load) id m (stop_word origin.load) (λ _. 1) (λ _. knew (λ _. told_head_raised m.0) st m 1)
     by_roles [] is = absurd (let bad : None ≡ Some z = sym (ap (role_in k) is) ∙ h in cc)
     by_roles (y ∷ ys) is = stops_first origin id y.0 m y.1 ys st is
 
-pub head_stops_as : (origin : Plain) (slots id k word : ℕ) (m : Sat) (z : Role) (knows : ℕ → Knows) → slots ≡ part_count origin.load → has k m.0 ≡ Some z → word ≡ stop_word origin.load → knows ≡ (λ _. told_head_raised m.0)
-    → Allows (Rule origin) slots id m word (λ _. 1) (λ _. knew knows (step slots word 1 0 none) m 1)
-head_stops_as origin slots id k word m z knows es is at_word told =
-    subst (λ (z : (ℕ × ℕ) × (ℕ → Knows)). Allows (Rule origin) z.0.0 id m z.0.1 (λ _. 1) (λ _. knew z.1 (step z.0.0 z.0.1 1 0 none) m 1)) (λ i. ((sym es i, sym at_word i), sym told i))
+pub head_stops_as : (origin : Plain) {style : Style} (slots id k word : ℕ) (m : Sat) (z : Role) (knows : ℕ → Knows) → slots ≡ part_count origin.load → has k m.0 ≡ Some z → word ≡ stop_word origin.load → knows ≡ (λ _. told_head_raised m.0)
+    → Allows (Rule origin style) slots id m word (λ _. 1) (λ _. knew knows (step slots word 1 0 none) m 1)
+head_stops_as origin {style} slots id k word m z knows es is at_word told =
+    subst (λ (z : (ℕ × ℕ) × (ℕ → Knows)). Allows (Rule origin style) z.0.0 id m z.0.1 (λ _. 1) (λ _. knew z.1 (step z.0.0 z.0.1 1 0 none) m 1)) (λ i. ((sym es i, sym at_word i), sym told i))
     (head_stops origin id k m z (step (part_count origin.load) (stop_word origin.load) 1 0 none) is)
 
 -- it is the head as before

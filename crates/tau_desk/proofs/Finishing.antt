@@ -34,7 +34,7 @@ done_hand t e = by_hand t.hand e
 
 pub dones : (origin : Plain) (v : Knows) (w : ℕ) (wk : Worker) (t' : PlainTxn) (hand : Hand) (act : Act Txn) (b b' : BoxOf) (number : ℕ) (lv : List ℕ) → wk.hand ≡ Some hand → begun origin.load.streams wk ≡ wk → hand.phase ≡ Freeing act → hand.held ≡ [] → t'.hand ≡ None →
     b'.0.pieces ≡ b.0.pieces → b'.1.calls ≡ b.1.calls ++ record { number = number; lv = lv } ∷ [] → record { number = number; lv = lv } ≡ ticket act → StepsBox origin (Done w) v w wk (next_worker origin.load wk t') b b'
-dones origin v w wk t' hand act b b' number lv is same phase held gone pieces calls waits c meets sees at_worker box =
+dones origin v w wk t' hand act b b' number lv is same phase held gone pieces calls waits style c meets sees at_worker box =
     let worker : next_worker origin.load wk t' ≡ record wk { hand = None } =
     ap (λ (x : Worker). worker_of origin.load.procs x t') same ∙ ap (worker_in origin.load.procs t'.worker wk) gone in (
       record (c.core.outboxes w) { pending = (c.core.outboxes w).pending ++ ticket act ∷ [] },

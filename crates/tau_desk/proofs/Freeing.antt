@@ -23,6 +23,7 @@ use Rattle.tau_txn.specs.Next as txn
 use Rattle.tau_txn.specs.Txn.{PlainTxn, hand_in, worker_of}
 use Rattle.tau_core.specs.State.{Plain}
 use Rattle.tau_core.specs.View.{setting_of}
+use Rattle.tau_occ.specs.declared.style.Style.{Style}
 use Rattle.tau_rule.specs.Steps.{Sat, Agrees, IsReady, StepsShard, next_worker, shard_in}
 use Rattle.tau_rule.specs.declared.part.Part.{Part}
 use Rattle.tau_rule.proofs.Turns.{part_shard, reached_invariant, share_worker, one_role}
@@ -68,7 +69,7 @@ pub taken_held : (origin : Plain) (m : Sat) (t : PlainTxn) (w k : ℕ) (p : Part
 taken_held origin m t w k p sh r h x is a was number =
     let run = a.meets.reached in
     let inv = reached_invariant origin a.state.core run in
-    let mine = share_worker origin w r.role.share r.worker a.state.core r.share (a.roles w r.role (one_role m.0 w r.role r.seat.roles)).0 in
+    let mine = share_worker origin w r.role.share r.worker a.state r.share (a.roles w r.role (one_role m.0 w r.role r.seat.roles)).0 in
     let here : sh ≡ a.state.core.shards (shard_number x) = sym (part_shard origin a.state k p sh was a.part).1 ∙ ap a.state.core.shards number in
     ap (λ (s : Shard). (entry_in s x).holders w) here ∙ inv.agrees.good.locks w x ∙ ap (λ (o : Option Hand). held_in o x) (ap (λ (y : Worker). y.hand) mine.1 ∙ is)
 
@@ -78,13 +79,13 @@ pub taken_written : (origin : Plain) (m : Sat) (t : PlainTxn) (w k : ℕ) (p : P
 taken_written origin m t w k p r h act x mode v is phase a held write =
     let run = a.meets.reached in
     let inv = reached_invariant origin a.state.core run in
-    let mine = share_worker origin w r.role.share r.worker a.state.core r.share (a.roles w r.role (one_role m.0 w r.role r.seat.roles)).0 in
+    let mine = share_worker origin w r.role.share r.worker a.state r.share (a.roles w r.role (one_role m.0 w r.role r.seat.roles)).0 in
     let good = inv.agrees.good.good.hands w h (ap (λ (y : Worker). y.hand) mine.1 ∙ is) in
     let joined = subst (λ (q : Phase). InPhase origin.load.procs origin.load.streams run.joined (sight (setting_of origin.load) a.state.core) w h q) phase good in
     joined.modes x mode (has_looked x act.effect.writes v write) held
 
-pub freed_steps : (origin : Plain) (w k : ℕ) (wk : Worker) (sh sh' : Shard) (t t' : PlainTxn) (key : Key) (mode : Mode) (act : Act Txn) (h : Hand) → wk.hand ≡ Some h → begun origin.load.streams wk ≡ wk → k ≡ shard_number key → h.phase ≡ Freeing act → mode_of key h.held ≡ Some mode → txn.IsLowest key h.held →
-    sh' ≡ shard_freed sh w key (lv_of act) (lookup (same_key key) act.effect.writes) → hand_in origin.load.procs t' ≡ Some (hand_freed (hand_joined h (Freeing act) h.dep) key) → StepsShard origin (Free w) w wk (next_worker origin.load wk t') k sh sh'
+pub freed_steps : (origin : Plain) {style : Style} (w k : ℕ) (wk : Worker) (sh sh' : Shard) (t t' : PlainTxn) (key : Key) (mode : Mode) (act : Act Txn) (h : Hand) → wk.hand ≡ Some h → begun origin.load.streams wk ≡ wk → k ≡ shard_number key → h.phase ≡ Freeing act → mode_of key h.held ≡ Some mode → txn.IsLowest key h.held →
+    sh' ≡ shard_freed sh w key (lv_of act) (lookup (same_key key) act.effect.writes) → hand_in origin.load.procs t' ≡ Some (hand_freed (hand_joined h (Freeing act) h.dep) key) → StepsShard origin style (Free w) w wk (next_worker origin.load wk t') k sh sh'
 freed_steps origin w k wk sh sh' t t' key mode act h is same number phase held lowest shard shown =
     frees origin w k wk (next_worker origin.load wk t') sh sh' h key mode act is number phase held lowest
     (ap (λ (y : Worker). worker_of origin.load.procs y t') same ∙ worker_shown origin.load.procs wk t' _ shown ∙ (λ i. record wk { hand = Some (hand_freed (record h { phase = sym phase i }) key) }))

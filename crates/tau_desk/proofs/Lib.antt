@@ -17,6 +17,7 @@ pub mod SplittingOff
 pub mod JoiningIn
 pub mod Assembling
 pub mod Taking
+pub mod Storing
 pub mod Anchored
 pub mod Publishing
 pub mod Ends

@@ -24,6 +24,7 @@ use Rattle.tau_txn.specs.Next as txn
 use Rattle.tau_txn.specs.Txn.{PlainTxn, hand_in, shown, shown_of, worker_of, worker_in, dep_in, RunsBy}
 use Rattle.tau_core.specs.State.{Plain}
 use Rattle.tau_core.specs.View.{setting_of}
+use Rattle.tau_occ.specs.declared.style.Style.{Style}
 use Rattle.tau_rule.specs.Knows.{Knows}
 use Rattle.tau_rule.specs.Steps.{Sat, Agrees, IsReady, IsAfter, StepsShard, next_worker, told, working, shard_in}
 use Rattle.tau_rule.specs.declared.part.Part.{Part}
@@ -58,9 +59,9 @@ no_lock (action.Done reply lv) o asked none e = cc
 no_lock action.LeftOver o asked none e = cc
 no_lock action.Nothing o asked none e = cc
 
-pub granted_steps : (origin : Plain) (w k : ℕ) (wk : Worker) (sh sh' : Shard) (t t' : PlainTxn) (key : Key) (mode : Mode) (row : Value) (dep dep' : List ℕ) (m : txn.Locks origin.load.procs t key mode) → (begun origin.load.streams wk).hand ≡ hand_in origin.load.procs t → k ≡ shard_number key →
+pub granted_steps : (origin : Plain) {style : Style} (w k : ℕ) (wk : Worker) (sh sh' : Shard) (t t' : PlainTxn) (key : Key) (mode : Mode) (row : Value) (dep dep' : List ℕ) (m : txn.Locks origin.load.procs t key mode) → (begun origin.load.streams wk).hand ≡ hand_in origin.load.procs t → k ≡ shard_number key →
     dep ≡ dep_in t → dep' ≡ dep_locked mode dep (entry_in sh key) → row ≡ sh.rows key → ((u : ℕ) → blocks (entry_in sh key) w mode u ≡ false) → sh' ≡ shard_locked sh w key mode →
-    hand_in origin.load.procs t' ≡ Some (locked_with m.hand key mode row dep') → StepsShard origin (Lock w) w wk (next_worker origin.load wk t') k sh sh'
+    hand_in origin.load.procs t' ≡ Some (locked_with m.hand key mode row dep') → StepsShard origin style (Lock w) w wk (next_worker origin.load wk t') k sh sh'
 granted_steps origin w k wk sh sh' t t' key mode row dep dep' m agrees number dep_is joined row_is free locked shown =
     locks origin w k wk sh m.hand key mode (agrees ∙ m.is) number m.phase m.next (next_worker origin.load wk t') sh' (no_conflict (setting_of origin.load) sh w key mode free)
     (worker_shown origin.load.procs (begun origin.load.streams wk) t' (locked_with m.hand key mode row dep') shown
@@ -74,10 +75,10 @@ refused_held origin sh w key mode e holder is refused =
     let lowest : RefusedBy (entry_in sh key) w mode (refusal.Busy holder) = subst (λ (r : ShardRefusal). RefusedBy (entry_in sh key) w mode r) is refused in
     a_conflict (setting_of origin.load) sh w key mode holder lowest.0
 
-pub busy_steps : (origin : Plain) (w k : ℕ) (wk : Worker) (sh sh' : Shard) (t t' : PlainTxn) (key : Key) (mode : Mode) (m : txn.Locks origin.load.procs t key mode) → Conflicts (setting_of origin.load) sh w key mode → (begun origin.load.streams wk).hand ≡ hand_in origin.load.procs t → k ≡ shard_number key → sh' ≡ sh → t.width ≡ origin.load.streams →
-    ((x : Worker) (h : Hand) → hand_in origin.load.procs t ≡ Some h → worker_of origin.load.procs x t' ≡ settled t.width x (hand_busy h)) → StepsShard origin (Busy w) w wk (next_worker origin.load wk t') k sh sh'
-busy_steps origin w k wk sh sh' t t' key mode m held agrees number same width busy =
-    subst (λ (x : Shard). StepsShard origin (Busy w) w wk (next_worker origin.load wk t') k sh x) (sym same)
+pub busy_steps : (origin : Plain) {style : Style} (w k : ℕ) (wk : Worker) (sh sh' : Shard) (t t' : PlainTxn) (key : Key) (mode : Mode) (m : txn.Locks origin.load.procs t key mode) → Conflicts (setting_of origin.load) sh w key mode → (begun origin.load.streams wk).hand ≡ hand_in origin.load.procs t → k ≡ shard_number key → sh' ≡ sh → t.width ≡ origin.load.streams →
+    ((x : Worker) (h : Hand) → hand_in origin.load.procs t ≡ Some h → worker_of origin.load.procs x t' ≡ settled t.width x (hand_busy h)) → StepsShard origin style (Busy w) w wk (next_worker origin.load wk t') k sh sh'
+busy_steps origin {style} w k wk sh sh' t t' key mode m held agrees number same width busy =
+    subst (λ (x : Shard). StepsShard origin style (Busy w) w wk (next_worker origin.load wk t') k sh x) (sym same)
     (refuses origin w k wk sh m.hand key mode (agrees ∙ m.is) number m.phase m.next (next_worker origin.load wk t') held (busy (begun origin.load.streams wk) m.hand m.is ∙ ap (λ (n : ℕ). settled n (begun origin.load.streams wk) (hand_busy m.hand)) width))
 
 pub worker_hand : (procs : List Proc) (wk : Worker) (t : PlainTxn) → (worker_of procs wk t).hand ≡ hand_in procs t

@@ -6,6 +6,7 @@ use Rattle.atomic_table.specs.Table.{step, Allows}
 use Rattle.tau_txn.specs.Txn.{PlainTxn}
 use Rattle.tau_core.specs.State.{Plain}
 use Rattle.tau_core.specs.declared.state.Load.{Load}
+use Rattle.tau_occ.specs.declared.style.Style.{Style}
 use Rattle.tau_rule.specs.Role.{Role}
 use Rattle.tau_rule.specs.Knows.{Knows}
 use Rattle.tau_rule.specs.Rule.{Rule, part_count}
@@ -20,11 +21,11 @@ use Rattle.tau_desk.specs.Manages.{told_found, told_raised}
 raised_is : (u : ℕ) (x : Role) (v : Knows) → v.roles ≡ (u, x) ∷ [] → raising u x v ≡ told_raised v
 raised_is u x v is = λ i. record v { roles = ((first_role (sym is i)).0, record (first_role (sym is i)).1 { raised = true }) ∷ [] }
 
-pub raises_as : (origin : Plain) (slots id u word : ℕ) (m : Sat) (x : Role) (knows : ℕ → Knows) → slots ≡ part_count origin.load → m.0.opened ≡ Some origin → m.0.roles ≡ (u, x) ∷ [] → u < origin.load.workers + origin.load.streams + 1 → word ≡ stop_word origin.load → knows ≡ (λ _. told_raised m.0)
-    → Allows (Rule origin) slots id m word (λ _. 1) (λ _. knew knows (step slots word 1 0 none) m 1)
-raises_as origin slots id u word m x knows es opened roles low is told =
+pub raises_as : (origin : Plain) {style : Style} (slots id u word : ℕ) (m : Sat) (x : Role) (knows : ℕ → Knows) → slots ≡ part_count origin.load → m.0.opened ≡ Some origin → m.0.roles ≡ (u, x) ∷ [] → u < origin.load.workers + origin.load.streams + 1 → word ≡ stop_word origin.load → knows ≡ (λ _. told_raised m.0)
+    → Allows (Rule origin style) slots id m word (λ _. 1) (λ _. knew knows (step slots word 1 0 none) m 1)
+raises_as origin {style} slots id u word m x knows es opened roles low is told =
     let same : (λ (n : ℕ). raising u x m.0) ≡ knows = ap (λ (v : Knows). λ (n : ℕ). v) (raised_is u x m.0 roles) ∙ sym told in
-    subst (λ (z : (ℕ × ℕ) × (ℕ → Knows)). Allows (Rule origin) z.0.0 id m z.0.1 (λ _. 1) (λ _. knew z.1 (step z.0.0 z.0.1 1 0 none) m 1)) (λ i. ((sym es i, sym is i), same i))
+    subst (λ (z : (ℕ × ℕ) × (ℕ → Knows)). Allows (Rule origin style) z.0.0 id m z.0.1 (λ _. 1) (λ _. knew z.1 (step z.0.0 z.0.1 1 0 none) m 1)) (λ i. ((sym es i, sym is i), same i))
     (stops origin id u m x (step (part_count origin.load) (stop_word origin.load) 1 0 none) opened roles low)
 
 -- the seats that raise it, or have looked, are those of their actors as before

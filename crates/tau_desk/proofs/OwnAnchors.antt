@@ -21,13 +21,14 @@ use Rattle.tau_core.specs.View.{setting_of}
 use Rattle.tau_core.proofs.GatheredItems.{own_moved, own_is_moved}
 use Rattle.tau_core.proofs.Spellings.{Split, chain_of, paired_append, paired_split}
 use Rattle.tau_shown.proofs.Steps.{gives_part}
+use Rattle.tau_occ.specs.declared.style.Style.{Style}
 use Rattle.tau_rule.specs.Role.{Clerking, Managed, Managing, Role, Share, Working}
 use Rattle.tau_rule.specs.Knows.{Knows}
 use Rattle.tau_rule.specs.Rule.{IsManaged, IsOutbox, IsPart, IsRole, IsShare, MAX_ANCHOR, Meets, Now, Sees, anchor_part, anchors_at, hand_of, has, manager_role, part_count, word_of, LONGEST}
 use Rattle.tau_rule.specs.Steps.{Agrees, ComesHome, Sat, handed, holding}
 use Rattle.tau_rule.specs.declared.part.Part.{Part}
 use Rattle.tau_rule.specs.declared.part.Part.TheVariants as part
-use Rattle.tau_rule.proofs.Turns.{Turn, alone, more, one_role, reached_invariant, reached_on, role_alone}
+use Rattle.tau_rule.proofs.Turns.{Turn, alone, more, one_role, reached_invariant, reached_on, role_alone, stored_on}
 use Rattle.tau_rule.proofs.Persisting.{small_gathered}
 use Rattle.tau_desk.specs.Shares.{PlainStock}
 use Rattle.tau_desk.specs.Seats.{IsManagerSeat}
@@ -36,7 +37,7 @@ use Rattle.tau_desk.proofs.Taking.{At, gone_is, managed_is, managing_is}
 use Rattle.tau_rule.proofs.Gathering.{managing_sees}
 
 -- the state after a Gather of these of its own anchors' records by the manager of stream j
-module _ (origin : Plain) (c : Now) (j : ℕ) (taken left : List Piece) (g : Managed) (old : Role) (there : j < origin.load.streams) (front : g.own ≡ taken ++ left) (continues : Continues g.gathered taken) (meets : Meets origin c) (mine : IsManaged origin.load j g c.core) where
+module _ (origin : Plain) {style : Style} (c : Now) (j : ℕ) (taken left : List Piece) (g : Managed) (old : Role) (there : j < origin.load.streams) (front : g.own ≡ taken ++ left) (continues : Continues g.gathered taken) (meets : Meets origin style c) (mine : IsManaged origin.load j g c) where
   split : Split (IsPieceOf origin.load (anchors_at c.core)) taken left (c.core.streams j).posted
   split = paired_split (IsPieceOf origin.load (anchors_at c.core)) taken left (c.core.streams j).posted (subst (λ (z : List Piece). Paired (IsPieceOf origin.load (anchors_at c.core)) z (c.core.streams j).posted) front mine.own)
 
@@ -47,10 +48,10 @@ module _ (origin : Plain) (c : Now) (j : ℕ) (taken left : List Piece) (g : Man
   str_then = record (c.core.streams j) { posted = split.back; moved = (c.core.streams j).moved ++ split.front }
 
   abbrev own_now : Now
-  own_now = record { core = own_moved (setting_of origin.load) j there c.core split.back ((c.core.streams j).moved ++ split.front) past; raised = c.raised; spare = c.spare }
+  own_now = record { core = own_moved (setting_of origin.load) j there c.core split.back ((c.core.streams j).moved ++ split.front) past; raised = c.raised; spare = c.spare; stored = c.stored }
 
   abbrev managed_then : Managed
-  managed_then = record { taken = g.taken ++ taken; gathered = past; anchors = g.anchors; own = left }
+  managed_then = record g { taken = g.taken ++ taken; gathered = past; own = left }
 
   here : own_now.core.streams j ≡ str_then
   here = at_same j str_then c.core.streams
@@ -77,13 +78,14 @@ module _ (origin : Plain) (c : Now) (j : ℕ) (taken left : List Piece) (g : Man
     refl,
   )
 
-  own_managed : IsManaged origin.load j managed_then own_now.core
+  own_managed : IsManaged origin.load j managed_then own_now
   own_managed = record {
     moved = subst (λ (z : (ℕ → List (List ℕ)) × List Item). Paired (IsPieceOf origin.load z.0) (g.taken ++ taken) z.1) (λ i. (sym same i, ap (λ (x : Stream). x.moved) (sym here) i))
         (paired_append (IsPieceOf origin.load (anchors_at c.core)) g.taken taken (c.core.streams j).moved split.front mine.moved split.fronts);
     gathered = get_or-set_same c.core.gathered j past 0 wide;
     anchors = ap (λ (x : Stream). x.anchors) here ∙ mine.anchors;
     own = subst (λ (z : (ℕ → List (List ℕ)) × List Item). Paired (IsPieceOf origin.load z.0) left z.1) (λ i. (sym same i, ap (λ (x : Stream). x.posted) (sym here) i)) split.backs;
+    stored = mine.stored;
   }
 
   parts_stay : (k : ℕ) (q : Part) → IsPart origin.load k q c → IsPart origin.load k q own_now
@@ -91,7 +93,7 @@ module _ (origin : Plain) (c : Now) (j : ℕ) (taken left : List Piece) (g : Man
   parts_stay k (part.Outbox a b) h = (h.0, h.1, h.2, subst (λ (z : ℕ → List (List ℕ)). IsOutbox origin.load a.value b.value z (c.core.outboxes h.0)) (sym same) h.3, h.4, h.5)
   parts_stay k (part.Anchor number lv) h = (h.0, h.1, h.2, subst (λ (z : ℕ → List (List ℕ)). Names origin.load h.0 (z h.0) number lv.value) (sym same) h.3, h.4)
 
-  shares_stay : (u : ℕ) (x : Share) → (u ≡ manager_role origin.load j → ⊥) → IsShare origin.load u x c.core → IsShare origin.load u x own_now.core
+  shares_stay : (u : ℕ) (x : Share) → (u ≡ manager_role origin.load j → ⊥) → IsShare origin.load u x c → IsShare origin.load u x own_now
   shares_stay u (Working x) apart h = h
   shares_stay u (Managing m) apart h =
       let other : h.0 ≡ j → ⊥ = (λ e. apart (h.1 ∙ ap (manager_role origin.load) e)) in
@@ -104,6 +106,7 @@ module _ (origin : Plain) (c : Now) (j : ℕ) (taken left : List Piece) (g : Man
           gathered = get_or-set_other c.core.gathered j h.0 past 0 other ∙ h.3.gathered;
           anchors = ap (λ (x : Stream). x.anchors) at' ∙ h.3.anchors;
           own = subst (λ (z : (ℕ → List (List ℕ)) × List Item). Paired (IsPieceOf origin.load z.0) m.own z.1) (λ i. (sym same i, ap (λ (x : Stream). x.posted) (sym at') i)) h.3.own;
+          stored = h.3.stored;
         },
       )
   shares_stay u (Clerking acked) apart h = h
@@ -128,9 +131,10 @@ module _ (origin : Plain) (c : Now) (j : ℕ) (taken left : List Piece) (g : Man
   fits_on i lt = subst (λ (z : ℕ → List (List ℕ)). slice_index c.core.ends i ≤ slice_index origin.load.opening.ends i + LONGEST * length (meets.reached.joined ++ []) + MAX_ANCHOR * length (z i)) (sym same)
       (more _ _ (length meets.reached.joined) (length (meets.reached.joined ++ [])) _ (meets.fits i lt) (let a = length-append meets.reached.joined [] in omega arith))
 
-  own_kept : Meets origin own_now
+  own_kept : Meets origin style own_now
   own_kept = record {
     reached = reached_on origin (Gather j) c.core own_now.core [] meets.reached own_leads tt;
+    stored = stored_on c.stored meets.reached.events (Gather j) meets.stored tt;
     going = no_stop;
     fits = fits_on;
     anchors = subst (λ (z : ℕ → List (List ℕ)). (i : ℕ) → i < origin.load.streams → length (z i) < 2 ^ 32) (sym same) meets.anchors;
@@ -148,7 +152,7 @@ module _ (origin : Plain) (c : Now) (j : ℕ) (taken left : List Piece) (g : Man
       let is = own_managed.gathered in
       omega (arith, h, is)
 
-  own_turn : (k : ℕ) → c.raised (manager_role origin.load j) ≡ old.raised → c.spare (manager_role origin.load j) ≡ old.spare → Turn origin c own_now k (manager_role origin.load j) (record old { share = Managing managed_then })
+  own_turn : (k : ℕ) → c.raised (manager_role origin.load j) ≡ old.raised → c.spare (manager_role origin.load j) ≡ old.spare → Turn origin style c own_now k (manager_role origin.load j) (record old { share = Managing managed_then })
   own_turn k raised spare = record {
     parts = λ i q lt apart h. parts_stay i q h;
     mine = ((j, refl, there, own_managed), raised, spare);
@@ -157,19 +161,19 @@ module _ (origin : Plain) (c : Now) (j : ℕ) (taken left : List Piece) (g : Man
     kept = own_kept;
   }
 
-pub share_managed : (origin : Plain) (j : ℕ) (x : Share) (g : Managed) (c : Now) → x ≡ Managing g → IsShare origin.load (manager_role origin.load j) x c.core → IsManaged origin.load j g c.core
+pub share_managed : (origin : Plain) (j : ℕ) (x : Share) (g : Managed) (c : Now) → x ≡ Managing g → IsShare origin.load (manager_role origin.load j) x c → IsManaged origin.load j g c
 share_managed origin j x g c is h =
-    let it = subst (λ (y : Share). IsShare origin.load (manager_role origin.load j) y c.core) is h in
-    subst (λ (i : ℕ). IsManaged origin.load i g c.core) (let e = it.1 in omega (arith, e)) it.3
+    let it = subst (λ (y : Share). IsShare origin.load (manager_role origin.load j) y c) is h in
+    subst (λ (i : ℕ). IsManaged origin.load i g c) (let e = it.1 in omega (arith, e)) it.3
 
 -- the anchor part comes home as it was, and the manager has gathered these of its own anchors' records
-pub gives_own : (origin : Plain) (id : ℕ) (m : Sat) (j : ℕ) (taken left : List Piece) (g : GivesOwn origin m j taken left) →
-    ComesHome origin id m.0 (anchor_part origin.load j) g.part_taken (handed m.0 (manager_role origin.load j) (record g.role { share = Managing (record { taken = g.managed.taken ++ taken; gathered = g.managed.gathered + length (bytes_of taken); anchors = g.managed.anchors; own = left }) }))
-gives_own origin id m j taken left g =
+pub gives_own : (origin : Plain) {style : Style} (id : ℕ) (m : Sat) (j : ℕ) (taken left : List Piece) (g : GivesOwn origin m j taken left) →
+    ComesHome origin style id m.0 (anchor_part origin.load j) g.part_taken (handed m.0 (manager_role origin.load j) (record g.role { share = Managing (record g.managed { taken = g.managed.taken ++ taken; gathered = g.managed.gathered + length (bytes_of taken); own = left }) }))
+gives_own origin {style} id m j taken left g =
     let v : Knows = m.0 in
     let u : ℕ = manager_role origin.load j in
-    let y : Role = record g.role { share = Managing (record { taken = g.managed.taken ++ taken; gathered = g.managed.gathered + length (bytes_of taken); anchors = g.managed.anchors; own = left }) } in
-    gives_part (IsPart origin.load) (IsRole origin.load) (word_of origin.load) hand_of has (Sees origin) (Meets origin) (part_count origin.load) (origin.load.streams + origin.load.streams + 1) id (anchor_part origin.load j) v (handed v u y) g.part_taken g.part_taken u g.role y g.held (one_role v u g.role g.roles) refl
+    let y : Role = record g.role { share = Managing (record g.managed { taken = g.managed.taken ++ taken; gathered = g.managed.gathered + length (bytes_of taken); own = left }) } in
+    gives_part (IsPart origin.load) (IsRole origin.load) (word_of origin.load) hand_of has (Sees origin) (Meets origin style) (part_count origin.load) (origin.load.streams + origin.load.streams + 1) id (anchor_part origin.load j) v (handed v u y) g.part_taken g.part_taken u g.role y g.held (one_role v u g.role g.roles) refl
     (role_alone u y) (λ a z h. alone u y a z h)
     (λ c meets part mine seen.
     let mine' = share_managed origin j g.role.share g.managed c g.share mine.0 in
@@ -183,13 +187,13 @@ gives_own origin id m j taken left g =
     (λ found z. z ≡ (handed v u y, []))
     (λ z. refl)
 
-pub own_is : (g : Managed) (taken left : List Piece) → g.own ≡ taken ++ left → own_gathered g left ≡ record { taken = g.taken ++ taken; gathered = g.gathered + length (bytes_of taken); anchors = g.anchors; own = left }
+pub own_is : (g : Managed) (taken left : List Piece) → g.own ≡ taken ++ left → own_gathered g left ≡ record g { taken = g.taken ++ taken; gathered = g.gathered + length (bytes_of taken); own = left }
 own_is g taken left front =
     let is : gone g.own left ≡ taken = ap (λ (ps : List Piece). gone ps left) front ∙ gone_is taken left in
-    λ i. record { taken = g.taken ++ is i; gathered = g.gathered + length (bytes_of (is i)); anchors = g.anchors; own = left }
+    λ i. record g { taken = g.taken ++ is i; gathered = g.gathered + length (bytes_of (is i)); own = left }
 
 pub told_own_is : (origin : Plain) (m : Sat) (j : ℕ) (taken left : List Piece) (g : GivesOwn origin m j taken left) →
-    told_own m.0 left ≡ handed m.0 (manager_role origin.load j) (record g.role { share = Managing (record { taken = g.managed.taken ++ taken; gathered = g.managed.gathered + length (bytes_of taken); anchors = g.managed.anchors; own = left }) })
+    told_own m.0 left ≡ handed m.0 (manager_role origin.load j) (record g.role { share = Managing (record g.managed { taken = g.managed.taken ++ taken; gathered = g.managed.gathered + length (bytes_of taken); own = left }) })
 told_own_is origin m j taken left g =
     ap (managing m.0) (ap (λ (x : Managed). own_gathered x left) (managed_is m.0 (manager_role origin.load j) g.role g.managed g.roles g.share) ∙ own_is g.managed taken left g.front)
     ∙ managing_is m.0 (manager_role origin.load j) g.role _ g.roles
@@ -231,7 +235,7 @@ pub seat_own : (m : Sat) (j : ℕ) (o o' : PlainStock) (seen body longer : List 
 seat_own m j o o' seen body longer h g anchors small =
     let s = h.stock in
     let u : ℕ = manager_role h.origin.load j in
-    let then : Managed = record { taken = s.managed.taken ++ g.taken; gathered = s.managed.gathered + length (bytes_of g.taken); anchors = s.managed.anchors; own = o'.own.pieces } in
+    let then : Managed = record s.managed { taken = s.managed.taken ++ g.taken; gathered = s.managed.gathered + length (bytes_of g.taken); own = o'.own.pieces } in
     let y : Role = record h.role { share = Managing then } in
     let knows : told_own m.0 o'.own.pieces ≡ handed m.0 u y =
     ap (managing m.0) (ap (λ (x : Managed). own_gathered x o'.own.pieces) (managed_is m.0 u h.role s.managed h.roles s.share) ∙ own_is s.managed g.taken o'.own.pieces (s.own ∙ g.front))

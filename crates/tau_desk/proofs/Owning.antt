@@ -22,7 +22,7 @@ use Rattle.tau_desk.specs.Owns.{OwnCalls, OwnCommitted, OwnKeys, OwnPieces, OwnR
 
 module _ (origin : Plain) (v : Knows) (k : ℕ) (taken : Part) (a : Agrees origin v k taken) where
   worker_is : (w : ℕ) (role : Role) (worker : Worker) → has w v ≡ Some role → role.share ≡ Working worker → a.state.core.workers w ≡ worker
-  worker_is w role worker is share = (share_worker origin w role.share worker a.state.core share (a.roles w role is).0).1
+  worker_is w role worker is share = (share_worker origin w role.share worker a.state share (a.roles w role is).0).1
 
   shard_is_that : (shard : Shard) (x : Key) → shard_in taken ≡ Some shard → k ≡ shard_number x → a.state.core.shards (shard_number x) ≡ shard
   shard_is_that shard x was number = ap a.state.core.shards (sym number) ∙ (part_shard origin a.state k taken shard was a.part).1

@@ -50,7 +50,7 @@ module _ (origin : Plain) (w : ℕ) (m : Sat) (t : PlainTxn) (start : ℕ) (r : 
   post_order p b a is =
       let a' : Agrees origin m.0 (outbox_part w) p = a in
       let mine = a'.roles w r.role (one_role m.0 w r.role r.seat.roles) in
-      let worker = share_worker origin w r.role.share r.worker a'.state.core r.share mine.0 in
+      let worker = share_worker origin w r.role.share r.worker a'.state r.share mine.0 in
       subst (λ (n : ℕ). end_of 0 b.0.pieces ≤ n) q.starts (posts_behind origin a'.state w r.worker q.hand q.act b a'.meets worker.1 (part_box origin a'.state w p b is a'.part) is_in_hand.0 q.phase)
 
   names : (c : Now) → Sees origin c m.0 → Names origin.load q.act.call.place.stream (anchors_at c.core q.act.call.place.stream) q.act.call.anchor q.base
@@ -75,4 +75,4 @@ module _ (origin : Plain) (w : ℕ) (m : Sat) (t : PlainTxn) (start : ℕ) (r : 
       }))
 
 pub steps_holding : (origin : Plain) (e : Event) (v : Knows) (k : ℕ) (p : Part) (w : ℕ) (wk wk' : Worker) (b b' : BoxOf) → StepsBox origin e v w wk wk' b b' → StepsBox origin e (holding k v p) w wk wk' b b'
-steps_holding origin e v k p w wk wk' b b' s c m sees = s c m (record { opened = sees.opened; wide = sees.wide; low = sees.low; own = sees.own; read = sees.read; found = sees.found })
+steps_holding origin e v k p w wk wk' b b' s style c m sees = s style c m (record { opened = sees.opened; wide = sees.wide; low = sees.low; own = sees.own; read = sees.read; found = sees.found })

@@ -6,6 +6,7 @@ use Rattle.tau_core.specs.declared.state.Load.{Load}
 use Rattle.tau_core.specs.Pieces.{Names}
 use Rattle.tau_core.specs.State.{Plain}
 use Rattle.tau_shown.proofs.Steps.{gives_part}
+use Rattle.tau_occ.specs.declared.style.Style.{Style}
 use Rattle.tau_rule.specs.Role.{role_in}
 use Rattle.tau_rule.specs.Knows.{Knows}
 use Rattle.tau_rule.specs.Rule.{IsPart, IsRole, Meets, Now, Sees, anchor_part, anchors_at, hand_of, has, manager_role, part_count, word_of}
@@ -27,11 +28,11 @@ names_part origin c j number lv (part.Anchor n v) is low h wide =
     (j, refl, low, subst (λ (z : ℕ × List ℕ). Names origin.load j (anchors_at c.core j) z.0 z.1) same h, subst (λ (z : ℕ × List ℕ). length z.1 ≡ origin.load.streams) same wide)
 
 -- the part comes home with an anchor that the manager placed
-pub gives_published : (origin : Plain) (id : ℕ) (m : Sat) (j number : ℕ) (lv : List ℕ) (q : Part) → anchor_in q ≡ Some (number, lv) → GivesPublished origin m j number lv → ComesHome origin id m.0 (anchor_part origin.load j) q (idle m.0)
-gives_published origin id m j number lv q is g =
+pub gives_published : (origin : Plain) {style : Style} (id : ℕ) (m : Sat) (j number : ℕ) (lv : List ℕ) (q : Part) → anchor_in q ≡ Some (number, lv) → GivesPublished origin m j number lv → ComesHome origin style id m.0 (anchor_part origin.load j) q (idle m.0)
+gives_published origin {style} id m j number lv q is g =
     let v : Knows = m.0 in
     let u : ℕ = manager_role origin.load j in
-    gives_part (IsPart origin.load) (IsRole origin.load) (word_of origin.load) hand_of has (Sees origin) (Meets origin) (part_count origin.load) (origin.load.streams + origin.load.streams + 1) id (anchor_part origin.load j) v (idle v) g.taken q u g.role g.role g.held (one_role v u g.role g.roles) refl
+    gives_part (IsPart origin.load) (IsRole origin.load) (word_of origin.load) hand_of has (Sees origin) (Meets origin style) (part_count origin.load) (origin.load.streams + origin.load.streams + 1) id (anchor_part origin.load j) v (idle v) g.taken q u g.role g.role g.held (one_role v u g.role g.roles) refl
     (one_role v u g.role g.roles) (λ a z h. alone u g.role a z (sym (ap (role_in a) g.roles) ∙ h))
     (λ c meets part mine seen.
     let managed = share_managed origin j g.role.share g.managed c g.share mine.0 in (

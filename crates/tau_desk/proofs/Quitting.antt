@@ -12,6 +12,7 @@ use Rattle.tau_machine.specs.Events.{Quit, with_shard, with_worker}
 use Rattle.tau_txn.specs.Next as txn
 use Rattle.tau_txn.specs.Txn.{PlainTxn, leaves_in, worker_of}
 use Rattle.tau_core.specs.State.{Plain}
+use Rattle.tau_occ.specs.declared.style.Style.{Style}
 use Rattle.tau_rule.specs.Steps.{StepsShard, next_worker}
 use Rattle.tau_txn.specs.declared.action.Action.{Action}
 use Rattle.tau_txn.specs.declared.action.Action.TheVariants as action
@@ -43,8 +44,8 @@ was_holding n wk h x mode e holds = by_case wk.hand wk.waiting refl refl
     by_case None [] a b = (let same : begun n wk ≡ wk = (λ i. begun_by n wk (a i) (b i)) in (ap (λ (z : Worker). z.hand) (sym same) ∙ e, same))
     by_case None (c ∷ cs) a b = absurd (not_fresh c (sym (λ i. (begun_by n wk (a i) (b i)).hand) ∙ e))
 
-pub quit_steps : (origin : Plain) (w k : ℕ) (wk : Worker) (sh sh' : Shard) (t t' : PlainTxn) (key : Key) (q : txn.Quits origin.load.procs t key) → wk.hand ≡ Some q.hand → begun origin.load.streams wk ≡ wk → k ≡ shard_number key → t.width ≡ origin.load.streams →
-    sh' ≡ shard_quit sh w key → ((x : Worker) → worker_of origin.load.procs x t' ≡ settled t.width x (hand_quit q.hand key (leaves_in t))) → StepsShard origin (Quit w (leaves_in t)) w wk (next_worker origin.load wk t') k sh sh'
+pub quit_steps : (origin : Plain) {style : Style} (w k : ℕ) (wk : Worker) (sh sh' : Shard) (t t' : PlainTxn) (key : Key) (q : txn.Quits origin.load.procs t key) → wk.hand ≡ Some q.hand → begun origin.load.streams wk ≡ wk → k ≡ shard_number key → t.width ≡ origin.load.streams →
+    sh' ≡ shard_quit sh w key → ((x : Worker) → worker_of origin.load.procs x t' ≡ settled t.width x (hand_quit q.hand key (leaves_in t))) → StepsShard origin style (Quit w (leaves_in t)) w wk (next_worker origin.load wk t') k sh sh'
 quit_steps origin w k wk sh sh' t t' key q is same number width shard settles s r at_worker at_shard =
     let up : Bool = leaves_in t in
     let here : sh ≡ s.shards (shard_number key) = sym at_shard ∙ ap s.shards number in

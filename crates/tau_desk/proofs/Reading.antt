@@ -17,6 +17,7 @@ use Rattle.tau_machine.specs.State.{Core}
 use Rattle.tau_machine.proofs.States.{again}
 use Rattle.tau_machine.specs.Events.{FirstFree, with_shard, with_worker}
 use Rattle.tau_txn.specs.Next as txn
+use Rattle.tau_occ.specs.declared.style.Style.{Style}
 use Rattle.tau_rule.proofs.Workers.{worker_shown}
 use Rattle.tau_txn.specs.Txn.{PlainTxn, hand_in, worker_of}
 use Rattle.tau_core.specs.declared.state.Load.{Load}
@@ -30,7 +31,7 @@ use Rattle.tau_rule.specs.Steps.{ComesHome, StepsShard, first_role, handed, next
 use Rattle.tau_rule.specs.Boxes.{BoxOf, box_in, with_box}
 use Rattle.tau_rule.specs.declared.part.Part.{Part}
 use Rattle.tau_rule.specs.declared.part.Part.TheVariants as part
-use Rattle.tau_rule.proofs.Turns.{Turn, alone, handed_sees, one_role, role_alone}
+use Rattle.tau_rule.proofs.Turns.{Turn, alone, handed_sees, one_role, role_alone, same_share}
 use Rattle.tau_rule.proofs.Boxes.{box_part, part_box}
 use Rattle.tau_desk.specs.Works.{GivesRead, GivesRoom, anchor_in, joined_worker, told_joined, told_read, told_read_only, told_room}
 
@@ -49,7 +50,7 @@ told_room_is v spare w x roles = λ i. handed v (first_role (roles i)).0 (record
 -- room was made in an outbox, and nothing else happened
 module _ (origin : Plain) (w : ℕ) (spare : ℕ × ℕ) (c : Now) where
   abbrev on_room : Now
-  on_room = record { core = c.core; raised = c.raised; spare = at w spare c.spare }
+  on_room = record { core = c.core; raised = c.raised; spare = at w spare c.spare; stored = c.stored }
 
   parts_stay : (j : ℕ) (p : Part) → (j ≡ outbox_part w → ⊥) → IsPart origin.load j p c → IsPart origin.load j p on_room
   parts_stay j (part.Shard b) apart h = h
@@ -64,22 +65,22 @@ module _ (origin : Plain) (w : ℕ) (spare : ℕ × ℕ) (c : Now) where
       )
   parts_stay j (part.Anchor number lv) apart h = h
 
-  room_turn : (old : Role) → Meets origin c → IsRole origin.load w old c → Turn origin c on_room (outbox_part w) w (record old { spare = spare })
+  room_turn : {style : Style} (old : Role) → Meets origin style c → IsRole origin.load w old c → Turn origin style c on_room (outbox_part w) w (record old { spare = spare })
   room_turn old meets mine = record {
     parts = λ j p low apart h. parts_stay j p apart h;
-    mine = (mine.0, mine.1, at_same w spare c.spare);
-    others = λ u x apart h. (h.0, h.1, at_other w spare c.spare u apart ∙ h.2);
+    mine = (same_share origin c c.raised (at w spare c.spare) w old.share mine.0, mine.1, at_same w spare c.spare);
+    others = λ u x apart h. (same_share origin c c.raised (at w spare c.spare) u x.share h.0, h.1, at_other w spare c.spare u apart ∙ h.2);
     sight = λ v lacks h. record { opened = h.opened; wide = h.wide; low = h.low; own = h.own; read = h.read; found = h.found };
-    kept = record { reached = meets.reached; going = meets.going; fits = meets.fits; anchors = meets.anchors; opened = meets.opened; limited = meets.limited; beyond = meets.beyond; shards = meets.shards; streams = meets.streams };
+    kept = record { reached = meets.reached; stored = meets.stored; going = meets.going; fits = meets.fits; anchors = meets.anchors; opened = meets.opened; limited = meets.limited; beyond = meets.beyond; shards = meets.shards; streams = meets.streams };
   }
 
-pub gives_room : (origin : Plain) (id : ℕ) (v : Knows) (carried : List (ℕ × Option Part)) (q : Part) (b : BoxOf) (w : ℕ) (spare : ℕ × ℕ) → GivesRoom (v, carried) b w spare → box_in q ≡ Some b → w < origin.load.workers → v.opened ≡ Some origin →
-    ComesHome origin id v (outbox_part w) q (told_room v spare)
-gives_room origin id v carried q b w spare g is there opened =
+pub gives_room : (origin : Plain) {style : Style} (id : ℕ) (v : Knows) (carried : List (ℕ × Option Part)) (q : Part) (b : BoxOf) (w : ℕ) (spare : ℕ × ℕ) → GivesRoom (v, carried) b w spare → box_in q ≡ Some b → w < origin.load.workers → v.opened ≡ Some origin →
+    ComesHome origin style id v (outbox_part w) q (told_room v spare)
+gives_room origin {style} id v carried q b w spare g is there opened =
     let x : Role = g.role in
     let y : Role = record x { spare = spare } in
-    subst (λ (t : Knows). ComesHome origin id v (outbox_part w) q t) (sym (told_room_is v spare w x g.roles))
-    (gives_part (IsPart origin.load) (IsRole origin.load) (word_of origin.load) hand_of has (Sees origin) (Meets origin) (part_count origin.load) (origin.load.streams + origin.load.streams + 1) id (outbox_part w) v (handed v w y) g.taken q w x y g.held (one_role v w x g.roles) refl
+    subst (λ (t : Knows). ComesHome origin style id v (outbox_part w) q t) (sym (told_room_is v spare w x g.roles))
+    (gives_part (IsPart origin.load) (IsRole origin.load) (word_of origin.load) hand_of has (Sees origin) (Meets origin style) (part_count origin.load) (origin.load.streams + origin.load.streams + 1) id (outbox_part w) v (handed v w y) g.taken q w x y g.held (one_role v w x g.roles) refl
     (role_alone w y) (λ u z h. alone w y u z h)
     (λ c m part mine seen.
     let before = part_box origin c w g.taken g.before g.was part in
@@ -114,13 +115,13 @@ part_of_anchor l c k p (part.Outbox o r) e z is h = cc
 part_of_anchor l c k (part.Shard b) (part.Anchor m u) e z is h = cc
 part_of_anchor l c k (part.Outbox o r) (part.Anchor m u) e z is h = cc
 
-pub gives_read : (origin : Plain) (id : ℕ) (v : Knows) (carried : List (ℕ × Option Part)) (q : Part) (w number : ℕ) (lv : List ℕ) → GivesRead origin.load (v, carried) w number lv → anchor_in q ≡ Some (number, lv) → v.opened ≡ Some origin →
-    ComesHome origin id v (anchor_part origin.load ((setting_of origin.load).stream_of w)) q (told_read v number lv)
-gives_read origin id v carried q w number lv g is opened =
+pub gives_read : (origin : Plain) {style : Style} (id : ℕ) (v : Knows) (carried : List (ℕ × Option Part)) (q : Part) (w number : ℕ) (lv : List ℕ) → GivesRead origin.load (v, carried) w number lv → anchor_in q ≡ Some (number, lv) → v.opened ≡ Some origin →
+    ComesHome origin style id v (anchor_part origin.load ((setting_of origin.load).stream_of w)) q (told_read v number lv)
+gives_read origin {style} id v carried q w number lv g is opened =
     let x : Role = g.role in
     let j : ℕ = (setting_of origin.load).stream_of w in
     let mine_alone : (u : ℕ) (r : Role) → has u v ≡ Some r → u ≡ w = λ u r h. alone w x u r (sym (ap (Rattle.tau_rule.specs.Role.role_in u) g.roles) ∙ h) in
-    gives_part (IsPart origin.load) (IsRole origin.load) (word_of origin.load) hand_of has (Sees origin) (Meets origin) (part_count origin.load) (origin.load.streams + origin.load.streams + 1) id (anchor_part origin.load j) v (told_read v number lv) g.taken q w x x g.held (one_role v w x g.roles) refl
+    gives_part (IsPart origin.load) (IsRole origin.load) (word_of origin.load) hand_of has (Sees origin) (Meets origin style) (part_count origin.load) (origin.load.streams + origin.load.streams + 1) id (anchor_part origin.load j) v (told_read v number lv) g.taken q w x x g.held (one_role v w x g.roles) refl
     (one_role v w x g.roles) mine_alone
     (λ c m part mine seen. (
       c,
@@ -144,8 +145,8 @@ first_number [] = 0
 first_number (x ∷ xs) = x.0
 
 -- a call that only read joins the committed ones, and frees its lowest key
-pub first_steps : (origin : Plain) (w k : ℕ) (wk : Worker) (sh sh' : Shard) (t' : PlainTxn) (key : Key) (mode : Mode) (act : Act Txn) (h : Hand) → wk.hand ≡ Some h → begun origin.load.streams wk ≡ wk → k ≡ shard_number key → txn.Reads origin.load.procs w h act → mode_of key h.held ≡ Some mode → txn.IsLowest key h.held →
-    sh' ≡ shard_freed sh w key (lv_of act) (lookup (same_key key) act.effect.writes) → hand_in origin.load.procs t' ≡ Some (hand_freed (hand_joined h (Freeing act) h.dep) key) → StepsShard origin (FirstFree w) w wk (joined_worker origin.load wk t' (committed_of act)) k sh sh'
+pub first_steps : (origin : Plain) {style : Style} (w k : ℕ) (wk : Worker) (sh sh' : Shard) (t' : PlainTxn) (key : Key) (mode : Mode) (act : Act Txn) (h : Hand) → wk.hand ≡ Some h → begun origin.load.streams wk ≡ wk → k ≡ shard_number key → txn.Reads origin.load.procs w h act → mode_of key h.held ≡ Some mode → txn.IsLowest key h.held →
+    sh' ≡ shard_freed sh w key (lv_of act) (lookup (same_key key) act.effect.writes) → hand_in origin.load.procs t' ≡ Some (hand_freed (hand_joined h (Freeing act) h.dep) key) → StepsShard origin style (FirstFree w) w wk (joined_worker origin.load wk t' (committed_of act)) k sh sh'
 first_steps origin w k wk sh sh' t' key mode act h is same number r held lowest shard shown s reached at_worker at_shard =
     let n : ℕ = origin.load.streams in
     let here : sh ≡ s.shards (shard_number key) = sym at_shard ∙ ap s.shards number in

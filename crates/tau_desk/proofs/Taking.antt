@@ -9,7 +9,7 @@ use Rattle.tau_outbox.specs.Pieces.{bytes_of}
 use Rattle.tau_core.specs.Pieces.{IsPieceOf, Paired}
 use Rattle.tau_core.specs.State.{Plain}
 use Rattle.tau_core.specs.View.{tickets}
-use Rattle.tau_rule.specs.Role.{Managed, Managing, Role, Share}
+use Rattle.tau_rule.specs.Role.{Managed, Managing, Role, Share, managed_in_share}
 use Rattle.tau_rule.specs.Knows.{Knows}
 use Rattle.tau_rule.specs.Rule.{IsManaged, IsOutbox, IsShare, anchors_at, manager_role, outbox_part}
 use Rattle.tau_rule.specs.Steps.{Agrees, IsBack, Sat, first_role, handed, holding, idle}
@@ -21,7 +21,7 @@ use Rattle.tau_rule.proofs.Gathering.{past_small}
 use Rattle.tau_rule.proofs.Turns.{one_role}
 use Rattle.tau_desk.specs.Shares.{IsStock, PlainStock}
 use Rattle.tau_desk.specs.Seats.{IsManagerSeat}
-use Rattle.tau_desk.specs.Manages.{gone, managed_in, managed_in_share, managing, pieces_held, pieces_in, told_gathered}
+use Rattle.tau_desk.specs.Manages.{gone, managed_in, managing, pieces_held, pieces_in, told_gathered}
 
 pub gone_is : (taken left : List Piece) → gone (taken ++ left) left ≡ taken
 gone_is taken left =
@@ -85,8 +85,8 @@ box_small key m j w o h p b left body longer upto low whose a was g =
     let s = h.stock in
     let u : ℕ = manager_role key.load j in
     let mine = a.roles u h.role (one_role m.0 u h.role h.roles) in
-    let share = subst (λ (x : Share). IsShare key.load u x a.state.core) s.share mine.0 in
-    let managed : IsManaged key.load j s.managed a.state.core = subst (λ (i : ℕ). IsManaged key.load i s.managed a.state.core) (let e = share.1 in omega (arith, e)) share.3 in
+    let share = subst (λ (x : Share). IsShare key.load u x a.state) s.share mine.0 in
+    let managed : IsManaged key.load j s.managed a.state = subst (λ (i : ℕ). IsManaged key.load i s.managed a.state) (let e = share.1 in omega (arith, e)) share.3 in
     let small = past_small key a.state w j g.taken left b.0 (record b.0 { pieces = left }) b.1 b.1 s.managed h.role s.there low whose g.front refl refl (subst (λ (n : ℕ). Rattle.tau_outbox.specs.Gather.Continues n g.taken) (sym s.gathered) g.continues) a.meets managed (part_box key a.state w p b was a.part) in
     let is = s.gathered in
     let end = g.past in

@@ -7,6 +7,7 @@ use Rattle.atomic_table.specs.Table.{Allows, Step, step}
 use Rattle.tau_base.specs.Vectors.{AtMost}
 use Rattle.tau_base.proofs.Vectors.{at_most_trans}
 use Rattle.tau_core.specs.State.{Plain}
+use Rattle.tau_occ.specs.declared.style.Style.{Style}
 use Rattle.tau_rule.specs.Knows.{Knows}
 use Rattle.tau_rule.specs.Positions.{plv_word}
 use Rattle.tau_rule.specs.Rule.{Rule, has, is_raised, number_if, part_count}
@@ -25,8 +26,8 @@ is_one : (b : Bool) → (number_if b == 1) ≡ b
 is_one true = refl
 is_one false = refl
 
-pub sees_stop : (origin : Plain) (id : ℕ) (m : Sat) (st : Step (Option Part)) → m.0.opened ≡ Some origin → Allows (Rule origin) (part_count origin.load) id m (stop_word origin.load) (λ n. n) (saw_stop st m)
-sees_stop origin id m st opened s rule len at small =
+pub sees_stop : (origin : Plain) {style : Style} (id : ℕ) (m : Sat) (st : Step (Option Part)) → m.0.opened ≡ Some origin → Allows (Rule origin style) (part_count origin.load) id m (stop_word origin.load) (λ n. n) (saw_stop st m)
+sees_stop origin {style} id m st opened s rule len at small =
     let went = looks_stop origin id m st s rule len at small in
     let mine = rule.each_view id m.0 at in
     let n : ℕ = slice_index s.words (stop_word origin.load) in
@@ -38,6 +39,7 @@ sees_stop origin id m st opened s rule len at small =
       (
         went.4,
         λ o its is. subst (λ (p : Plain). StopStands p m.0 (n == 1)) (one_origin origin o (sym opened ∙ its)) (record {
+          style = style;
           state = rule.core;
           meets = rule.kept;
           sees = mine.seen;
@@ -47,9 +49,9 @@ sees_stop origin id m st opened s rule len at small =
       ),
     )
 
-pub sees_stop_as : (origin : Plain) (slots id word : ℕ) (m : Sat) → slots ≡ part_count origin.load → m.0.opened ≡ Some origin → word ≡ stop_word origin.load → Allows (Rule origin) slots id m word (λ n. n) (saw_stop (step slots word 0 0 none) m)
-sees_stop_as origin slots id word m es opened is =
-    subst (λ (z : ℕ × ℕ). Allows (Rule origin) z.0 id m z.1 (λ n. n) (saw_stop (step z.0 z.1 0 0 none) m)) (λ i. (sym es i, sym is i))
+pub sees_stop_as : (origin : Plain) {style : Style} (slots id word : ℕ) (m : Sat) → slots ≡ part_count origin.load → m.0.opened ≡ Some origin → word ≡ stop_word origin.load → Allows (Rule origin style) slots id m word (λ n. n) (saw_stop (step slots word 0 0 none) m)
+sees_stop_as origin {style} slots id word m es opened is =
+    subst (λ (z : ℕ × ℕ). Allows (Rule origin style) z.0 id m z.1 (λ n. n) (saw_stop (step z.0 z.1 0 0 none) m)) (λ i. (sym es i, sym is i))
     (sees_stop origin id m (step (part_count origin.load) (stop_word origin.load) 0 0 none) opened)
 
 -- one of the first so many actors has raised it
@@ -71,8 +73,8 @@ has_raised origin v stands s (inl (u, r, is, up)) =
     sym s.is ∙ one_raises (bound origin) u s.state.raised (in_range origin s.state u r.share mine.0) (mine.1 ∙ up)
 has_raised origin v stands s (inr found) = sym s.is ∙ s.sees.found found
 
-pub sees_persisted : (origin : Plain) (id j : ℕ) (m : Sat) (st : Step (Option Part)) → m.0.opened ≡ Some origin → j < origin.load.streams → st.word ≡ plv_word origin.load j → Allows (Rule origin) (part_count origin.load) id m (plv_word origin.load j) (λ n. n) (saw_persisted st m)
-sees_persisted origin id j m st opened there word s rule len at small =
+pub sees_persisted : (origin : Plain) {style : Style} (id j : ℕ) (m : Sat) (st : Step (Option Part)) → m.0.opened ≡ Some origin → j < origin.load.streams → st.word ≡ plv_word origin.load j → Allows (Rule origin style) (part_count origin.load) id m (plv_word origin.load j) (λ n. n) (saw_persisted st m)
+sees_persisted origin {style} id j m st opened there word s rule len at small =
     let went = loads_plv origin id j m st opened there word s rule len at small in
     let mine = rule.each_view id m.0 at in
     let end = sym (word_plv origin j rule.core there) ∙ sym (rule.numbers (origin.load.streams + j) (omega (arith, there))) in (
@@ -84,6 +86,7 @@ sees_persisted origin id j m st opened there word s rule len at small =
         went.4,
         λ o its i low is.
             subst (λ (z : Plain × ℕ). PersistedAt z.0 m.0 m.0.seen z.1 (slice_index s.words (plv_word origin.load j))) (λ k. (one_origin origin o (sym opened ∙ its) k, same o i its is k)) (record {
+              style = style;
               state = rule.core;
               meets = rule.kept;
               roles = λ u r h. (mine.roles u r h).0;
@@ -98,15 +101,16 @@ sees_persisted origin id j m st opened there word s rule len at small =
         let e : plv_word origin.load j ≡ plv_word origin.load i = sym word ∙ is ∙ ap (λ (q : Plain). plv_word q.load i) (sym (one_origin origin o (sym opened ∙ its))) in
         omega (arith, e)
 
-pub sees_persisted_as : (origin : Plain) (slots id j word : ℕ) (m : Sat) → slots ≡ part_count origin.load → m.0.opened ≡ Some origin → j < origin.load.streams → word ≡ plv_word origin.load j
-    → Allows (Rule origin) slots id m word (λ n. n) (saw_persisted (step slots word 0 0 none) m)
-sees_persisted_as origin slots id j word m es opened low is =
-    subst (λ (z : ℕ × ℕ). Allows (Rule origin) z.0 id m z.1 (λ n. n) (saw_persisted (step z.0 z.1 0 0 none) m)) (λ i. (sym es i, sym is i))
+pub sees_persisted_as : (origin : Plain) {style : Style} (slots id j word : ℕ) (m : Sat) → slots ≡ part_count origin.load → m.0.opened ≡ Some origin → j < origin.load.streams → word ≡ plv_word origin.load j
+    → Allows (Rule origin style) slots id m word (λ n. n) (saw_persisted (step slots word 0 0 none) m)
+sees_persisted_as origin {style} slots id j word m es opened low is =
+    subst (λ (z : ℕ × ℕ). Allows (Rule origin style) z.0 id m z.1 (λ n. n) (saw_persisted (step z.0 z.1 0 0 none) m)) (λ i. (sym es i, sym is i))
     (sees_persisted origin id j m (step (part_count origin.load) (plv_word origin.load j) 0 0 none) opened low refl)
 
 -- what a seat is told that had seen more by then
 pub persisted_before : (origin : Plain) (m m' : Sat) (seen seen' : List ℕ) (j upto : ℕ) → SeesOn m m' seen seen' → PersistedAt origin m'.0 seen' j upto → PersistedAt origin m.0 seen j upto
 persisted_before origin m m' seen seen' j upto s p = record {
+  style = p.style;
   state = p.state;
   meets = p.meets;
   roles = λ u r h. p.roles u r (ap (λ (x : Sat). has u x.0) s.knows ∙ h);

@@ -72,7 +72,7 @@ seat_first origin m m' w o t kept cs room read seen opened s knows is_more q =
 -- the end of a call that only read and holds no key is an event: it joins the committed ones, and waits for its acknowledgement
 pub reading_dones : (origin : Plain) (v : Knows) (w : ℕ) (wk : Worker) (t' : PlainTxn) (hand : Hand) (act : Act theory.Txn) (b b' : BoxOf) (number : ℕ) (lv : List ℕ) → (begun origin.load.streams wk).hand ≡ Some hand → txn.Reads origin.load.procs w hand act → hand.held ≡ [] → t'.hand ≡ None →
     b'.0.pieces ≡ b.0.pieces → b'.1.calls ≡ b.1.calls ++ record { number = number; lv = lv } ∷ [] → record { number = number; lv = lv } ≡ ticket act → StepsBox origin (DoneReading w) v w wk (joined_worker origin.load wk t' (committed_of act)) b b'
-reading_dones origin v w wk t' hand act b b' number lv is r held gone pieces calls waits c meets sees at_worker box =
+reading_dones origin v w wk t' hand act b b' number lv is r held gone pieces calls waits style c meets sees at_worker box =
     let n : ℕ = origin.load.streams in
     let kept : Committed = committed_of act in
     let hj : Hand = hand_joined hand (theory.Freeing act) hand.dep in

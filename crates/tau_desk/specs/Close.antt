@@ -30,13 +30,13 @@ pub record IsSeatOf (l : Load) (w : ℕ) (c : Now) (x : PlainSeat) : Type 0 wher
   pub part : IsPart l (outbox_part w) box c
   pub of_box : IsBoxOf box x
   pub worker : Worker
-  pub share : IsShare l w (Working worker) c.core
+  pub share : IsShare l w (Working worker) c
   pub own : worker ≡ seat_worker l x worker.committed
 
 -- a stream: the manager's own part, with the bytes that it was given
 pub record IsStreamOf (l : Load) (j : ℕ) (c : Now) (gathered : List ℕ) (taken : List ℕ) (x : PlainStream) : Type 0 where
   pub managed : Managed
-  pub share : IsShare l (manager_role l j) (Managing managed) c.core
+  pub share : IsShare l (manager_role l j) (Managing managed) c
   pub anchors : x.anchors ≡ managed.anchors
   pub own : x.own.pieces ≡ managed.own
   pub going : x.stop ≡ None

@@ -9,6 +9,7 @@ use Rattle.tau_core.specs.Plain.{PlainSeat}
 use Rattle.tau_core.specs.Stands.{Stands}
 use Rattle.tau_core.specs.State.{Plain}
 use Rattle.tau_core.specs.View.{Hidden, core_of}
+use Rattle.tau_occ.specs.declared.style.Style.{Style}
 use Rattle.tau_rule.specs.Role.{Role}
 use Rattle.tau_rule.specs.Knows.{Knows}
 use Rattle.tau_core.specs.declared.state.Load.{Load}
@@ -89,9 +90,9 @@ abbrev pub AreResting : PlainHead → Type 0
 AreResting h = (w : ℕ) (o : PlainWork) → slice_get h.workers w ≡ Some (Some o) → (held_in o.txn ≡ []) × (has_joined o.txn ≡ false)
 
 -- at the close: all that the head knows, and each outbox of the core, are of one state that events lead to, and the core is that state's, where each call in hand is let go
-pub record IsClosing (origin : Plain) (v : Knows) (result : Plain) : Type 0 where
+pub record IsClosing (origin : Plain) (style : Style) (v : Knows) (result : Plain) : Type 0 where
   pub state : Now
-  pub meets : Meets origin state
+  pub meets : Meets origin style state
   pub sees : Sees origin state v
   pub roles : (u : ℕ) (r : Role) → has u v ≡ Some r → IsRole origin.load u r state
   -- the head has each role, and no call in hand holds a key or has committed

@@ -3,6 +3,7 @@ use Rattle.std.specs.Prelude.{ℕ, ◌+◌, ◌<◌, ◌≡◌, ◌⊎◌, ◌==
 use Rattle.tau_base.specs.Vectors.{AtMost}
 use Rattle.tau_core.specs.State.{Plain}
 use Rattle.atomic_table.specs.Table.{Step}
+use Rattle.tau_occ.specs.declared.style.Style.{Style}
 use Rattle.tau_rule.specs.Role.{Role}
 use Rattle.tau_rule.specs.Knows.{Knows}
 use Rattle.tau_rule.specs.Positions.{looked, plv_word}
@@ -14,8 +15,9 @@ use Rattle.tau_desk.specs.Manages.{told_found}
 
 -- at a state with which all that the seat knows agrees, an actor has raised the stop if and only if this is so
 pub record StopStands (origin : Plain) (v : Knows) (stands : Bool) : Type 0 where
+  pub style : Style
   pub state : Now
-  pub meets : Meets origin state
+  pub meets : Meets origin style state
   pub sees : Sees origin state v
   pub roles : (u : ℕ) (r : Role) → has u v ≡ Some r → IsRole origin.load u r state
   pub is : is_raised (origin.load.workers + origin.load.streams + 1) state.raised ≡ stands
@@ -30,8 +32,9 @@ saw_stop st m found m' = (m' ≡ (told_found m.0 found, m.1)) × ((origin : Plai
 
 -- at a state with which the roles of the seat agree, and in which each stream was persisted as far at least as is said here, this one was persisted up to there
 pub record PersistedAt (origin : Plain) (v : Knows) (seen : List ℕ) (j upto : ℕ) : Type 0 where
+  pub style : Style
   pub state : Now
-  pub meets : Meets origin state
+  pub meets : Meets origin style state
   pub roles : (u : ℕ) (r : Role) → has u v ≡ Some r → IsRole origin.load u r state
   pub low : AtMost seen state.core.plv
   pub is : slice_index state.core.plv j ≡ upto

@@ -17,7 +17,8 @@ use Rattle.tau_record.specs.declared.entry.Entry.TheVariants as entry
 use Rattle.tau_core.specs.declared.state.Load.{Load}
 use Rattle.tau_core.specs.Pieces.{Names}
 use Rattle.tau_core.specs.State.{Plain}
-use Rattle.tau_rule.specs.Role.{Clerking, Managed, Managing, Role, Share, Working}
+use Rattle.tau_occ.specs.declared.style.Style.{Style}
+use Rattle.tau_rule.specs.Role.{Clerking, Managed, Managing, Role, Share, Working, managed_in_share}
 use Rattle.tau_rule.specs.Knows.{Knows}
 use Rattle.atomic_table.specs.Table.{Step}
 use Rattle.tau_rule.specs.Rule.{IsRole, Meets, Now, Sees, anchor_part, clerk_role, has, manager_role, outbox_part, part_count}
@@ -29,12 +30,7 @@ use Rattle.tau_desk.specs.Shares.{PlainStock}
 use Rattle.tau_desk.specs.Seats.{PlainClerkSeat, PlainManagerSeat}
 use Rattle.tau_desk.specs.Works.{anchor_in}
 
--- what a manager's share is, and the clerk's lists
-abbrev pub managed_in_share : Share → Managed
-managed_in_share (Working wk) = record { taken = []; gathered = 0; anchors = []; own = [] }
-managed_in_share (Managing g) = g
-managed_in_share (Clerking acked) = record { taken = []; gathered = 0; anchors = []; own = [] }
-
+-- the clerk's lists
 abbrev pub acked_in_share : Share → List (List Ticket)
 acked_in_share (Working wk) = []
 acked_in_share (Managing g) = []
@@ -81,7 +77,7 @@ pub record GivesOwn (origin : Plain) (m : Sat) (j : ℕ) (taken left : List Piec
   pub continues : Continues managed.gathered taken
 
 abbrev pub own_gathered : Managed → List Piece → Managed
-own_gathered g left = record { taken = g.taken ++ gone g.own left; gathered = g.gathered + length (bytes_of (gone g.own left)); anchors = g.anchors; own = left }
+own_gathered g left = record g { taken = g.taken ++ gone g.own left; gathered = g.gathered + length (bytes_of (gone g.own left)); own = left }
 
 abbrev pub told_own : Knows → List Piece → Knows
 told_own v left = managing v (own_gathered (managed_in v) left)
@@ -216,8 +212,9 @@ pub record SeesOn (m m' : Sat) (seen seen' : List ℕ) : Type 0 where
 
 -- at a state with which all that the seat knows agrees the stream was placed up to there
 pub record PlacedTo (origin : Plain) (v : Knows) (j upto : ℕ) : Type 0 where
+  pub style : Style
   pub state : Now
-  pub meets : Meets origin state
+  pub meets : Meets origin style state
   pub sees : Sees origin state v
   pub roles : (u : ℕ) (r : Role) → has u v ≡ Some r → IsRole origin.load u r state
   pub end : slice_index state.core.ends j ≡ upto

@@ -20,6 +20,7 @@ use Rattle.tau_core.specs.View.{call_of}
 use Rattle.tau_core.specs.declared.state.Load.{Load}
 use Rattle.tau_core.specs.State.{Plain}
 use Rattle.tau_core.specs.View.{setting_of}
+use Rattle.tau_occ.specs.declared.style.Style.{Style}
 use Rattle.tau_rule.specs.Role.{Role, Working}
 use Rattle.tau_rule.specs.Knows.{Knows}
 use Rattle.tau_rule.specs.Rule.{anchor_part, outbox_part}
@@ -58,7 +59,7 @@ pub record GivesFirst (origin : Plain) (m : Sat) (k : ℕ) (q : PlainShard) (w :
   pub share : role.share ≡ Working worker
   pub was : shard_in taken ≡ Some before
   pub there : w < origin.load.workers
-  pub steps : StepsShard origin (FirstFree w) w worker (joined_worker origin.load worker t kept) k before (shard_of q)
+  pub steps : (style : Style) → StepsShard origin style (FirstFree w) w worker (joined_worker origin.load worker t kept) k before (shard_of q)
 
 -- the seat has its outbox in hand, and the end of its call, which only read and holds no key, leaves it so, with no call in hand
 pub record GivesReadOnly (origin : Plain) (m : Sat) (b : BoxOf) (w : ℕ) (t : PlainTxn) (kept : Committed) (spare : ℕ × ℕ) : Type 0 where

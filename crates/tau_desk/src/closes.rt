@@ -37,11 +37,12 @@ impl Desk {
         requires opened { head.me.0.opened ≡ Some self.table.shared.key.value }
         requires whole { IsWhole head }
         requires rests { AreResting head }
-        ensures { IsClosing self.table.shared.key.value head.me.0 result }
+        ensures { IsClosing self.table.shared.key.value self.table.shared.key.style head.me.0 result }
     {
         let Desk {
             table,
             load,
+            style: _,
             parts,
             streams: _,
             kept,

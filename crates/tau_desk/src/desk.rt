@@ -10,7 +10,7 @@ ghost use Rattle.tau_rule.specs.Rule.{has, part_count};
 ghost use Rattle.tau_rule.specs.Steps.{Agrees, ComesHome, GivesShard, IsBack, Took, holding, idle, told};
 ghost use Rattle.tau_rule.specs.Places.{IsToPlace, placed};
 ghost use Rattle.tau_rule.specs.Boxes.{BoxOf, GivesOutbox, told_box};
-ghost use Rattle.tau_rule.specs.Positions.{IsManager, sees_to};
+ghost use Rattle.tau_rule.specs.Positions.{IsManager, sees_to, stores_to};
 ghost use Rattle.tau_rule.specs.declared.part.Part.{Part as PartOf};
 ghost use Rattle.tau_desk.specs.Looks.{PersistedAt};
 
@@ -20,13 +20,13 @@ use atomic_table::{Play, Table};
 use std::alloc::Global;
 use std::hint::spin_loop;
 use std::marker::Brand;
-use std::snapshot::Snapshot;
 use std::sync::Wait;
 use tau_ack::Pending;
 use tau_base::{SHARDS, stream_of};
-use tau_core::{Core, Load};
+use tau_core::Load;
+use tau_occ::Style;
 use tau_outbox::Outbox;
-use tau_rule::{Give, OneCore, Part, Place, Seat, Store, Take, Told, View};
+use tau_rule::{Give, OneCore, Origin, Part, Place, Seat, Store, Take, Told, View};
 use tau_shard::Shard;
 use tau_txn::Txn;
 
@@ -46,9 +46,11 @@ impl Play<Option<Part>, View> for LookPersisted {
 /// The core, split over a table.
 #[derive(Drop)]
 pub struct Desk {
-    pub table: Table<Option<Part>, View, Snapshot<Core>, OneCore, Global>,
+    pub table: Table<Option<Part>, View, Origin, OneCore, Global>,
     /// What the run stands on.
     pub load: Load,
+    /// How the workers go about their locks.
+    pub style: Style,
     /// How many parts there are.
     pub parts: usize,
     /// How many streams there are.
@@ -56,6 +58,7 @@ pub struct Desk {
     /// The room for the core that it makes when it closes.
     pub kept: Kept,
     ghost same_load: { load ≡ table.shared.key.value.load },
+    ghost same_style: { style ≡ table.shared.key.style },
     ghost few: { table.shared.key.value.load.workers ≤ MAX_WORKERS },
     ghost roomy: { HasRoom table.shared.key.value.load (vec_len kept.shards, vec_capacity kept.shards) (vec_len kept.seats, vec_capacity kept.seats) (vec_len kept.streams, vec_capacity kept.streams) (length kept.committed.items, kept.committed.room) },
     ghost sized: { (table.shared.table_id.words ≡ 8 * (parts + (table.shared.key.value.load.streams + table.shared.key.value.load.streams + 1))) × (table.shared.table_id.slots ≡ parts) × (parts ≡ part_count table.shared.key.value.load) × (parts < 2 ^ 16) },
@@ -186,7 +189,7 @@ impl Desk {
         requires own { seat.old.table_id ≡ self.now.table.shared.table_id }
         requires part { number < self.now.parts }
         requires carried { seat.old.me.1 ≡ (number, None) ∷ [] }
-        requires home { ComesHome self.now.table.shared.key.value seat.old.id seat.old.me.0 number part (N.knows 0) }
+        requires home { ComesHome self.now.table.shared.key.value self.now.table.shared.key.style seat.old.id seat.old.me.0 number part (N.knows 0) }
         ensures own { (seat.new.table_id ≡ seat.old.table_id) × (seat.new.id ≡ seat.old.id) }
         ensures given { seat.new.me ≡ (N.knows 0, []) }
     {
@@ -202,7 +205,7 @@ impl Desk {
         requires own { seat.old.table_id ≡ self.now.table.shared.table_id }
         requires opened { seat.old.me.0.opened ≡ Some self.now.table.shared.key.value }
         requires part { number < self.now.parts }
-        requires event { (e : EventOf) × (w : ℕ) × GivesShard self.now.table.shared.key.value e seat.old.me number shard.value w txn.now }
+        requires event { (e : EventOf) × (w : ℕ) × GivesShard self.now.table.shared.key.value self.now.table.shared.key.style e seat.old.me number shard.value w txn.now }
         ensures own { (seat.new.table_id ≡ seat.old.table_id) × (seat.new.id ≡ seat.old.id) }
         ensures given { seat.new.me ≡ (told self.now.table.shared.key.value.load seat.old.me.0 txn.now, []) }
     {
@@ -213,7 +216,7 @@ impl Desk {
         requires own { seat.old.table_id ≡ self.now.table.shared.table_id }
         requires opened { seat.old.me.0.opened ≡ Some self.now.table.shared.key.value }
         requires part { number < self.now.parts }
-        requires event { (e : EventOf) × (w : ℕ) × GivesShard self.now.table.shared.key.value e seat.old.me number shard.value w txn.now }
+        requires event { (e : EventOf) × (w : ℕ) × GivesShard self.now.table.shared.key.value self.now.table.shared.key.style e seat.old.me number shard.value w txn.now }
         requires told { N.knows 0 ≡ told self.now.table.shared.key.value.load seat.old.me.0 txn.now }
         ensures own { (seat.new.table_id ≡ seat.old.table_id) × (seat.new.id ≡ seat.old.id) }
         ensures given { seat.new.me ≡ (told self.now.table.shared.key.value.load seat.old.me.0 txn.now, []) }
@@ -290,7 +293,7 @@ impl Desk {
         requires own { seat.old.table_id ≡ self.now.table.shared.table_id }
         requires manager { (g : ManagedOf) × IsManager self.now.table.shared.key.value stream seat.old.me g × (slice_index seat.old.me.0.seen stream ≤ new) × (new ≤ g.gathered) }
         ensures own { (seat.new.table_id ≡ seat.old.table_id) × (seat.new.id ≡ seat.old.id) }
-        ensures seen { seat.new.me ≡ (sees_to stream new seat.old.me.0, seat.old.me.1) }
+        ensures stored { seat.new.me ≡ (stores_to stream new seat.old.me.0, seat.old.me.1) }
     {
         let word = 8 * (self.parts + (self.streams + stream));
         self.table.shared.store::<Store>(seat, word, new);

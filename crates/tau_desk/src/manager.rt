@@ -3,7 +3,7 @@ ghost use Rattle.std.specs.Prelude.{◌≡◌, ◌+◌, ◌-◌, ◌%◌, ◌^�
 ghost use Rattle.tau_base.specs.declared.limits.TheConstants.{MAX_ANCHORS, MAX_LSN, SHARDS};
 ghost use Rattle.tau_rule.specs.Role.{Role as RoleOf};
 ghost use Rattle.tau_rule.specs.Boxes.{box_in};
-ghost use Rattle.tau_rule.specs.Positions.{sees_to};
+ghost use Rattle.tau_rule.specs.Positions.{sees_to, stores_to};
 ghost use Rattle.tau_rule.specs.Rule.{anchor_part, has};
 ghost use Rattle.tau_shard.specs.Read.{shard_of};
 ghost use Rattle.tau_rule.specs.Steps.{Agrees, holding, shard_in};
@@ -216,7 +216,7 @@ impl ManagerSeat {
         requires opened { self.old.me.0.opened ≡ Some desk.now.table.shared.key.value }
         requires low { slice_index self.old.seen self.old.stream ≤ durable }
         requires high { durable ≤ self.old.stock.gathered }
-        ensures knows { self.new ≡ record self.old { me = (sees_to self.old.stream durable self.old.me.0, self.old.me.1); seen = slice_set self.old.seen self.old.stream durable } }
+        ensures knows { self.new ≡ record self.old { me = (stores_to self.old.stream durable self.old.me.0, self.old.me.1); seen = slice_set self.old.seen self.old.stream durable } }
     {
         desk.persist(&mut self.seat, self.stream as usize, durable);
         self.seen.set(self.stream as usize, durable);

@@ -23,18 +23,20 @@ use std::snapshot::Snapshot;
 use tau_base::{LogMode, Lv, NoMemory, SHARDS};
 use tau_core::{Core, Load, Opening, Parts, Stream};
 use tau_model::CommittedList;
-use tau_rule::Part;
+use tau_occ::Style;
+use tau_rule::{Origin, Part};
 use tau_shard::Shard;
 use tau_text::Workload;
 
 impl Desk {
-    /// The desk on this opening, for so many workers. The head has every role.
+    /// The desk on this opening, for so many workers in this style. The head has every role.
     pub fn open(
         alloc: Global,
         load: &Workload,
         opening: Opening,
         m: u8,
         mode: LogMode,
+        style: Style,
     ) -> Result<(Desk, Head), NoMemory>
         requires low { 1 ≤ m }
         requires high { m ≤ MAX_WORKERS }
@@ -42,20 +44,21 @@ impl Desk {
         requires streams { length opening.ends ≤ most_streams (format_of mode) }
         requires fits { Fits opening }
         requires short { (j : ℕ) → j < length opening.ends → slice_index opening.ends j ≤ MAX_BEGIN }
-        ensures { IfOk result (λ d. Opened (load_of load.now.declarations.procs load.now.calls mode m opening) d.0.table.shared.key.value × IsFirst d.0.table.shared.key.value d.1.me × IsWhole d.1 × (d.1.table_id ≡ d.0.table.shared.table_id) × AreUnbegun d.1.workers × AreResting d.1) }
+        ensures { IfOk result (λ d. Opened (load_of load.now.declarations.procs load.now.calls mode m opening) d.0.table.shared.key.value × IsFirst d.0.table.shared.key.value d.1.me × IsWhole d.1 × (d.1.table_id ≡ d.0.table.shared.table_id) × AreUnbegun d.1.workers × AreResting d.1 × (d.0.table.shared.key.style ≡ style)) }
     {
         let core = Core::open(alloc, load, opening, m, mode)?;
-        let (desk, head) = desk_of(alloc, core)?;
+        let (desk, head) = desk_of(alloc, core, style)?;
         Ok((desk, head))
     }
 
-    /// The desk of a run of so many workers on `n` streams that hold the record of the catalogue alone. The head has every role.
+    /// The desk of a run of so many workers in this style on `n` streams that hold the record of the catalogue alone. The head has every role.
     pub fn new(
         alloc: Global,
         load: &Workload,
         n: u8,
         m: u8,
         mode: LogMode,
+        style: Style,
     ) -> Result<(Desk, Head), NoMemory>
         requires n_low { 1 ≤ n }
         requires n_high { n ≤ most_streams (format_of mode) }
@@ -63,21 +66,24 @@ impl Desk {
         requires high { m ≤ MAX_WORKERS }
         requires calls { AreCalls load.now.declarations.procs load.now.calls }
         requires text { length (declarations_text load.now.declarations) ≤ MAX_CATALOGUE }
-        ensures { IfOk result (λ d. OpenedFresh load.now.declarations.procs load.now.calls mode m n (catalogue_size (declarations_text load.now.declarations)) d.0.table.shared.key.value × IsFirst d.0.table.shared.key.value d.1.me × IsWhole d.1 × (d.1.table_id ≡ d.0.table.shared.table_id) × AreUnbegun d.1.workers × AreResting d.1) }
+        ensures { IfOk result (λ d. OpenedFresh load.now.declarations.procs load.now.calls mode m n (catalogue_size (declarations_text load.now.declarations)) d.0.table.shared.key.value × IsFirst d.0.table.shared.key.value d.1.me × IsWhole d.1 × (d.1.table_id ≡ d.0.table.shared.table_id) × AreUnbegun d.1.workers × AreResting d.1 × (d.0.table.shared.key.style ≡ style)) }
     {
         let core = Core::new(alloc, load, n, m, mode)?;
-        let (desk, head) = desk_of(alloc, core)?;
+        let (desk, head) = desk_of(alloc, core, style)?;
         Ok((desk, head))
     }
 }
 
 /// The desk of a core that has just opened.
-fn desk_of(alloc: Global, core: Core) -> Result<(Desk, Head), NoMemory>
+fn desk_of(alloc: Global, core: Core, style: Style) -> Result<(Desk, Head), NoMemory>
     requires opened { Opened core.load core }
     requires short { (j : ℕ) → j < core.load.streams → slice_index core.load.opening.ends j ≤ MAX_BEGIN }
-    ensures { IfOk result (λ d. (d.0.table.shared.key.value ≡ core) × IsFirst core d.1.me × IsWhole d.1 × (d.1.table_id ≡ d.0.table.shared.table_id) × AreUnbegun d.1.workers) }
+    ensures { IfOk result (λ d. (d.0.table.shared.key.value ≡ core) × IsFirst core d.1.me × IsWhole d.1 × (d.1.table_id ≡ d.0.table.shared.table_id) × AreUnbegun d.1.workers × (d.0.table.shared.key.style ≡ style)) }
 {
-    let key = Snapshot::of(&core);
+    let key = Origin {
+        core: Snapshot::of(&core),
+        style,
+    };
     let Parts {
         alloc: _,
         load,
@@ -102,6 +108,7 @@ fn desk_of(alloc: Global, core: Core) -> Result<(Desk, Head), NoMemory>
     let desk = Desk {
         table,
         load,
+        style,
         parts,
         streams,
         kept,

@@ -93,7 +93,7 @@ give_first-requires-clause-event g c =
         share = r.share;
         was = was;
         there = r.there;
-        steps = subst (λ (x : Committed). StepsShard origin (FirstFree c.args.worker) c.args.worker r.worker (joined_worker origin.load r.worker c.went.new.self x) k sh (shard_of c.free_by.new.self)) (sym kept)
+        steps = λ style. subst (λ (x : Committed). StepsShard origin style (FirstFree c.args.worker) c.args.worker r.worker (joined_worker origin.load r.worker c.went.new.self x) k sh (shard_of c.free_by.new.self)) (sym kept)
             (first_steps origin c.args.worker k r.worker sh (shard_of c.free_by.new.self) c.went.new.self key means.mode means.act means.hand begun.0 begun.1 number (subst (λ (n : ℕ). Reads origin.load.procs n means.hand means.act) r.number reads) means.held means.lowest after shown);
       },
     )

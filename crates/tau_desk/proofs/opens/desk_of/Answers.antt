@@ -33,7 +33,7 @@ new-requires c =
     let count : c.len-parts.result ≡ length c.in_ok-slots.slots.items = search rules in
     let first : AreFirstWords c.len-parts.result core.ends core.plv c.as_slice.result.now =
     subst (λ (z : List ℕ × List ℕ × List ℕ). AreFirstWords c.len-parts.result z.0 z.1 z.2) (λ i. (ends i, plv i, sym words i)) c.in_ok-words.ensures in
-    subst (λ (o : Plain). Rule o (opening c.as_slice.result.now c.in_ok-slots.slots.items (first_view o))) (sym c.of-key.ensures)
+    subst (λ (o : Plain). Rule o c.args.style (opening c.as_slice.result.now c.in_ok-slots.slots.items (first_view o))) (sym c.of.ensures)
     (begins_so core c.requires.opened c.requires.short (length parts.ends) wide c.in_ok-lay_shards.field-0.items c.in_ok-boxes.boxes.items c.in_ok-anchors.anchors.items shards boxes anchors
     c.as_slice.result.now c.in_ok-slots.slots.items c.len-parts.result c.in_ok-slots.ensures count first)
 
@@ -46,16 +46,17 @@ invariant_of-head c =
     let works : EachOf IsItsWork core.seats c.in_ok-boxes.workers.items = subst (λ (l : List PlainSeat). EachOf IsItsWork l c.in_ok-boxes.workers.items) (ap (λ (p : Plain). p.seats) same) c.in_ok-boxes.ensures.1 in
     let stocks : EachOf (IsItsStock core.ends) core.streams c.in_ok-anchors.managers.items =
     subst (λ (z : List ℕ × List PlainStream). EachOf (IsItsStock z.0) z.1 c.in_ok-anchors.managers.items) (λ i. (ends i, ap (λ (p : Plain). p.streams) same i)) c.in_ok-anchors.ensures.1 in
-    let me : c.in-Ok.seat.me ≡ (first_view core, []) = c.in-Ok.ensures.ok.4 ∙ ap (λ (o : Plain). (first_view o, [])) c.of-key.ensures in
+    let me : c.in-Ok.seat.me ≡ (first_view core, []) = c.in-Ok.ensures.ok.4 ∙ ap (λ (o : Plain). (first_view o, [])) c.of.ensures in
     subst (λ (z : Sat × List ℕ). IsHead z.0 c.in_ok-boxes.workers.items c.in_ok-anchors.managers.items true z.1) (λ i. (sym me i, sym ends i)) (head_is core c.requires.opened c.requires.short c.in_ok-boxes.workers.items c.in_ok-anchors.managers.items works stocks)
 
 pub returns : goal.returns
 returns c =
     let core = c.args.core in
     let parts = c.load.inside in (
-      ap (λ k. k.value) c.in-Ok.ensures.ok.5 ∙ c.of-key.ensures,
-      record { opened = c.requires.opened; knows = c.in-Ok.ensures.ok.4 ∙ ap (λ (o : Plain). (first_view o, [])) c.of-key.ensures },
+      ap (λ k. k.value) c.in-Ok.ensures.ok.5 ∙ c.of.ensures,
+      record { opened = c.requires.opened; knows = c.in-Ok.ensures.ok.4 ∙ ap (λ (o : Plain). (first_view o, [])) c.of.ensures },
       record { workers = all_work parts.seats.items c.in_ok-boxes.workers.items c.in_ok-boxes.ensures.1; managers = all_stock parts.ends parts.streams.items c.in_ok-anchors.managers.items c.in_ok-anchors.ensures.1; clerk = refl },
       c.in-Ok.ensures.ok.2,
       all_unbegun core c.requires.opened c.in_ok-boxes.workers.items (subst (λ (l : List PlainSeat). EachOf IsItsWork l c.in_ok-boxes.workers.items) (ap (λ (p : Plain). p.seats) (c.load.view_is ∙ c.into_parts.ensures.same)) c.in_ok-boxes.ensures.1),
+      ap (λ k. k.style) c.in-Ok.ensures.ok.5,
     )

@@ -90,6 +90,7 @@ give_outbox-requires-clause-event g c =
           there = r.there;
           records = c.more_records-room.ensures.there;
           calls = c.more_calls-room.ensures.there;
+          none = tt;
           steps = dones origin c.take_outbox-outbox.new.seat.me.0 c.args.worker r.worker c.went.new.self means.hand means.act b b' c.number_of.result c.lv_ref.result.now begun.0 begun.1 phase means.held empty
               (c.more_records-room.ensures.pieces ∙ ap (λ (o : PlainOutbox). o.pieces) c.deref_mut-2.ensures.value)
               (c.more_calls-room.ensures.calls ∙ ap (λ (o : PlainPending). o.calls) c.deref_mut-3.ensures.value ∙ c.put_from.ensures.calls ∙ ap (λ (o : PlainPending). o.calls ++ record { number = c.number_of.result; lv = c.lv_ref.result.now } ∷ []) c.deref_mut.ensures.value)

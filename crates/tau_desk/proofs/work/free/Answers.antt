@@ -93,6 +93,7 @@ give_shard-requires-clause-event g c =
         share = r.share;
         was = was;
         there = r.there;
+        none = tt;
         steps = freed_steps origin c.args.worker k r.worker sh (shard_of c.free_by.new.self) c.args.txn.now c.went.new.self key means.mode means.act means.hand begun.0 begun.1 number phase means.held means.lowest
             (c.free_by.ensures ∙ (λ i. shard_freed sh c.args.worker key (c.lv_ref-lv.ensures.frees origin.load.procs means.hand means.act r.runs means.is means.act_is i) ((c.written_at.ensures ∙ means.write_is) i)))
             (subst (λ (p : List Proc). hand_in p c.args.txn.now ≡ Some means.hand → FreesBy p (has_joined c.args.txn.now) c.args.txn.now.worker means.hand means.act → hand_in p c.went.new.self ≡ Some (hand_freed (hand_joined means.hand (Freeing means.act) means.hand.dep) key)) c.requires.procs

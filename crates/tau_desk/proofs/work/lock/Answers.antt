@@ -76,6 +76,7 @@ give_shard-requires-clause-event g c =
         share = r.share;
         was = was;
         there = r.there;
+        none = tt;
         steps = granted_steps origin c.args.worker k r.worker sh (shard_of c.lock_on.new.shard) c.args.txn.now c.lock_on.new.self c.in-Some.key c.in-Some.mode (sh.rows c.in-Some.key) (dep_in c.args.txn.now)
             (dep_locked c.in-Some.mode (dep_in c.args.txn.now) (entry_in sh c.in-Some.key)) means r.agrees number refl refl refl c.in-Ok.ensures.step.free c.in-Ok.ensures.step.locked
             (c.in-Ok.ensures.step.is origin.load.procs means.hand r.runs means.is);
@@ -107,6 +108,7 @@ give_shard-requires-in-Err-Busy-clause-event g c =
         share = r.share;
         was = was;
         there = r.there;
+        none = tt;
         steps = busy_steps origin c.args.worker k r.worker sh (shard_of c.lock_on.new.shard) c.args.txn.now c.busy.new.self c.in-Some.key c.in-Some.mode means
             (refused_held origin sh c.args.worker c.in-Some.key c.in-Some.mode _ _ c.in-Err-Busy.field-0-is c.in-Err-Busy.ensures.refused) r.agrees number c.in-Err-Busy.ensures.unchanged r.width
             (subst (λ (t : PlainTxn). (x : Worker) (h : Hand) → hand_in origin.load.procs t ≡ Some h → worker_of origin.load.procs x c.busy.new.self ≡ settled t.width x (hand_busy h)) c.in-Err-Busy.ensures.as_before

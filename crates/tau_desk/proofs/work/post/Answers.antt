@@ -52,6 +52,7 @@ give_outbox-requires-clause-event g c =
           there = r.there;
           records = (let e = c.post_from.ensures.room in let f = ap (λ (o : PlainOutbox). o.room) before in let low = c.requires.room.1 in omega (arith, rooms.0, e, f, low));
           calls = rooms.1;
+          none = tt;
           steps = subst (λ (v : Knows). Rattle.tau_rule.specs.Boxes.StepsBox origin (Post c.args.worker) v c.args.worker r.worker (Rattle.tau_rule.specs.Steps.next_worker origin.load r.worker c.post_from.new.txn) b b') (sym (ap (λ m. m.0) held.1))
               (steps_holding origin (Post c.args.worker) c.args.seat.now.me.0 (SHARDS + c.args.worker) held.0 c.args.worker r.worker (Rattle.tau_rule.specs.Steps.next_worker origin.load r.worker c.post_from.new.txn) b b'
               (post_steps origin c.args.worker c.args.seat.now.me c.args.txn.now c.args.start r q c.post_from.new.txn b b' piece

@@ -63,6 +63,7 @@ give_shard-requires-clause-event g c =
         share = r.share;
         was = was;
         there = r.there;
+        none = tt;
         steps = quit_steps origin c.args.worker k r.worker sh (shard_of c.quit.new.self) c.args.txn.now c.went.new.self key means begun.0 begun.1 number r.width c.quit.ensures
             (λ x. subst (λ (p : List Proc). (wk : Worker) (h : Hand) (y : Key) → next_action c.args.txn.now ≡ action.Quit y → hand_in p c.args.txn.now ≡ Some h → worker_of p wk c.went.new.self ≡ settled c.args.txn.now.width wk (hand_quit h y (leaves_in c.args.txn.now))) c.requires.procs
             (λ wk h y. c.went.ensures.quit wk h y) x means.hand key next means.is);

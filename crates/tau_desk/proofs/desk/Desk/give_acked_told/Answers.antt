@@ -27,6 +27,6 @@ come_home-requires-clause-home g c =
     let origin = c.args.self.now.table.shared.key.value in
     let q : Part = part.Outbox c.args.outbox c.args.pending in
     let at' : SHARDS + c.from-number.result ≡ outbox_part c.args.worker = (let e = c.from-number.ensures in omega (arith, e)) in
-    subst (λ (x : ℕ × Knows). ComesHome origin c.args.seat.now.id c.args.seat.now.me.0 x.0 q x.1)
+    subst (λ (x : ℕ × Knows). ComesHome origin c.args.self.now.table.shared.key.style c.args.seat.now.id c.args.seat.now.me.0 x.0 q x.1)
     (λ i. (sym at' i, sym (c.requires.told ∙ told_acked_is origin.load c.args.seat.now.me event.0 c.args.worker c.args.call.now event.2) i))
     (gives_acked origin c.args.seat.now.id c.args.seat.now.me q event.0 c.args.worker c.args.call.now (ap Some (sym event.1)) event.2 c.requires.opened)

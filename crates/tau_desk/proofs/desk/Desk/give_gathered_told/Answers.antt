@@ -28,6 +28,6 @@ come_home-requires-clause-home g c =
     let origin = c.args.self.now.table.shared.key.value in
     let q : Part = part.Outbox c.args.outbox c.args.pending in
     let at' : SHARDS + c.from-number.result ≡ outbox_part c.args.worker = (let e = c.from-number.ensures in omega (arith, e)) in
-    subst (λ (x : ℕ × Knows). ComesHome origin c.args.seat.now.id c.args.seat.now.me.0 x.0 q x.1)
+    subst (λ (x : ℕ × Knows). ComesHome origin c.args.self.now.table.shared.key.style c.args.seat.now.id c.args.seat.now.me.0 x.0 q x.1)
     (λ i. (sym at' i, sym (c.requires.told ∙ told_gathered_is origin c.args.seat.now.me q c.args.worker c.args.stream d.0 d.1 (c.args.outbox.value, c.args.pending.value) refl) i))
     (gives_gathered origin c.args.seat.now.id c.args.seat.now.me.0 c.args.seat.now.me.1 q c.args.worker c.args.stream d.0 d.1)

@@ -20,6 +20,6 @@ come_home-requires-clause-home g c =
     let d = c.requires.event in
     let origin = c.args.self.now.table.shared.key.value in
     let left = c.args.stock.now.own.pieces in
-    subst (λ (x : (ℕ × Part) × Knows). ComesHome origin c.args.seat.now.id c.args.seat.now.me.0 x.0.0 x.0.1 x.1)
+    subst (λ (x : (ℕ × Part) × Knows). ComesHome origin c.args.self.now.table.shared.key.style c.args.seat.now.id c.args.seat.now.me.0 x.0.0 x.0.1 x.1)
     (λ i. ((sym c.anchor_number-number.ensures i, d.2 i), sym (c.requires.told ∙ told_own_is origin c.args.seat.now.me c.args.stream d.0 left d.1) i))
     (gives_own origin c.args.seat.now.id c.args.seat.now.me c.args.stream d.0 left d.1)

@@ -20,5 +20,5 @@ pub come_home-requires-clause-home : goal.come_home-requires-clause-home
 come_home-requires-clause-home g c =
     let origin = c.args.self.now.table.shared.key.value in
     let q : Part = part.Anchor c.args.number c.args.lv in
-    subst (λ (x : ℕ × Knows). ComesHome origin c.args.seat.now.id c.args.seat.now.me.0 x.0 q x.1) (λ i. (sym c.anchor_number-home.ensures i, sym c.requires.told i))
+    subst (λ (x : ℕ × Knows). ComesHome origin c.args.self.now.table.shared.key.style c.args.seat.now.id c.args.seat.now.me.0 x.0 q x.1) (λ i. (sym c.anchor_number-home.ensures i, sym c.requires.told i))
     (gives_published origin c.args.seat.now.id c.args.seat.now.me c.args.stream c.args.number c.args.lv.value q refl c.requires.event)

@@ -33,7 +33,7 @@ come_home-requires-clause-home g c =
     let spare : ℕ × ℕ = (c.args.room.records, c.args.room.calls) in
     let q : Part = part.Outbox c.args.outbox c.args.pending in
     let at' : SHARDS + c.from-number.result ≡ outbox_part c.args.worker = (let e = c.from-number.ensures in omega arith) in
-    subst (λ (x : ℕ × Knows). ComesHome origin c.args.seat.now.id v x.0 q x.1)
+    subst (λ (x : ℕ × Knows). ComesHome origin c.args.self.now.table.shared.key.style c.args.seat.now.id v x.0 q x.1)
     (λ i. (sym at' i, sym (c.requires.told ∙ told_read_only_is origin.load v c.args.txn.now c.args.kept.now spare c.args.worker d.role d.worker d.roles d.share) i))
     (gives_box origin c.args.seat.now.id v c.args.seat.now.me.1 q c.args.worker (joined_worker origin.load d.worker c.args.txn.now c.args.kept.now) spare (DoneReading c.args.worker)
-    (record { taken = d.taken; role = d.role; worker = d.worker; before = d.before; after = event.0; held = d.held; carried = d.carried; roles = d.roles; share = d.share; was = d.was; is = ap Some (sym event.1); there = d.there; records = d.records; calls = d.calls; steps = d.steps }) c.requires.opened)
+    (record { taken = d.taken; role = d.role; worker = d.worker; before = d.before; after = event.0; held = d.held; carried = d.carried; roles = d.roles; share = d.share; was = d.was; is = ap Some (sym event.1); there = d.there; records = d.records; calls = d.calls; steps = d.steps; none = tt }) c.requires.opened)

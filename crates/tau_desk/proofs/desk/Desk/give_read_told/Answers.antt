@@ -15,5 +15,5 @@ come_home-requires-clause-home g c =
     let v : Knows = c.args.seat.now.me.0 in
     let q : Part = part.Anchor c.args.number c.args.lv in
     let same : c.args.part ≡ anchor_part origin.load ((setting_of origin.load).stream_of c.args.worker) = ap first_number (sym c.requires.there ∙ d.carried) in
-    subst (λ (x : ℕ × Knows). ComesHome origin c.args.seat.now.id v x.0 q x.1) (λ i. (sym same i, sym c.requires.told i))
+    subst (λ (x : ℕ × Knows). ComesHome origin c.args.self.now.table.shared.key.style c.args.seat.now.id v x.0 q x.1) (λ i. (sym same i, sym c.requires.told i))
     (gives_read origin c.args.seat.now.id v c.args.seat.now.me.1 q c.args.worker c.args.number c.args.lv.value d refl c.requires.opened)

@@ -28,5 +28,5 @@ come_home-requires-clause-home g c =
     let v : Knows = c.args.seat.now.me.0 in
     let q : Part = part.Outbox c.args.outbox c.args.pending in
     let at' : SHARDS + c.from-number.result ≡ outbox_part c.args.worker = (let e = c.from-number.ensures in omega arith) in
-    subst (λ (x : ℕ × Knows). ComesHome origin c.args.seat.now.id v x.0 q x.1) (λ i. (sym at' i, sym c.requires.told i))
+    subst (λ (x : ℕ × Knows). ComesHome origin c.args.self.now.table.shared.key.style c.args.seat.now.id v x.0 q x.1) (λ i. (sym at' i, sym c.requires.told i))
     (gives_room origin c.args.seat.now.id v c.args.seat.now.me.1 q event.0 c.args.worker (c.args.room.records, c.args.room.calls) event.2 (ap Some (sym event.1)) c.requires.there c.requires.opened)

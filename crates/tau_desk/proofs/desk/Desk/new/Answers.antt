@@ -24,4 +24,5 @@ returns c =
       d.3,
       d.4,
       unbegun_rests c.in_ok-desk.head d.4,
+      d.5,
     )

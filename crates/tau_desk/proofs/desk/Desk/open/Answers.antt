@@ -17,4 +17,4 @@ pub returns : goal.returns
 returns c =
     let d = c.in_ok-desk.ensures in
     let l = load_of c.args.load.now.declarations.procs c.args.load.now.calls c.args.mode c.args.m c.args.opening in
-    (subst (Opened l) (sym d.0) c.in_ok-core.ensures, subst (λ (o : Plain). IsFirst o c.in_ok-desk.head.me) (sym d.0) d.1, d.2, d.3, d.4, unbegun_rests c.in_ok-desk.head d.4)
+    (subst (Opened l) (sym d.0) c.in_ok-core.ensures, subst (λ (o : Plain). IsFirst o c.in_ok-desk.head.me) (sym d.0) d.1, d.2, d.3, d.4, unbegun_rests c.in_ok-desk.head d.4, d.5)

@@ -12,5 +12,5 @@ split_seat-requires g c =
     let r = c.requires in (
       r.own,
       search rules,
-      subst (λ (z : Knows × Knows). Splits (Rule origin) seat.id seat.me.0 z.0 z.1) (λ i. (sym r.told.0 i, sym r.told.1 i)) (splits origin seat.id c.args.role seat.me.0 r.there.0 r.idle r.there.1),
+      subst (λ (z : Knows × Knows). Splits (Rule origin c.args.self.now.table.shared.key.style) seat.id seat.me.0 z.0 z.1) (λ i. (sym r.told.0 i, sym r.told.1 i)) (splits origin seat.id c.args.role seat.me.0 r.there.0 r.idle r.there.1),
     )

@@ -13,5 +13,5 @@ split_seat-requires g c =
     let a = r.can in (
       r.own,
       search rules,
-      subst (λ (z : Knows × Knows). Splits (Rule origin) seat.id seat.me.0 z.0 z.1) (λ i. (sym r.told.0 i, sym (r.told.1 ∙ a.told) i)) (splits_resuming origin seat.me.0 c.args.worker a.call a.front a.back a.can seat.id r.idle),
+      subst (λ (z : Knows × Knows). Splits (Rule origin c.args.self.now.table.shared.key.style) seat.id seat.me.0 z.0 z.1) (λ i. (sym r.told.0 i, sym (r.told.1 ∙ a.told) i)) (splits_resuming origin seat.me.0 c.args.worker a.call a.front a.back a.can seat.id r.idle),
     )
