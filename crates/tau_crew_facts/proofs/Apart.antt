@@ -8,6 +8,7 @@ use Rattle.tau_stream.specs.declared.writer.Writer.{Writer}
 use Rattle.tau_text.specs.declared.load.Workload.{Workload}
 use Rattle.tau_core.specs.declared.state.Load.{Load}
 use Rattle.tau_record.specs.Content.{anchors_of}
+use Rattle.tau_occ.specs.declared.style.Style.{Style}
 use Rattle.tau_run.specs.Start.{Start, opened_at, IsStart}
 use Rattle.tau_run.specs.Gives.{CameTo, came_far}
 use Rattle.tau_run.specs.StopsLeave.{IsOver, NamesLowest, stops_in}
@@ -19,7 +20,7 @@ use Rattle.tau_crew_facts.specs.Threads.{in_threads}
 use Rattle.tau_crew_facts.proofs.Anchors.{anchors_spaced}
 
 module _ {D : Type 0} {G : Ghosts D} {n m : ℕ} {mode : LogMode} {load : Workload} {start : Start} {l : Load} {ws ws' : List (Writer D G)} {acks : List (ℕ × List ℕ)} (on : BeginsOn n m mode load start l)
-    (t : CameTo in_threads (opened_at load start) l ws ws' acks) (whole : in_threads true l t.opening (came_far t)) (over : IsOver l.streams t.state) (going : NamesLowest l.streams (stops_in t.state) None) where
+    (style : Style) (t : CameTo (in_threads style) (opened_at load start) l ws ws' acks) (whole : in_threads style true l t.opening (came_far t)) (over : IsOver l.streams t.state) (going : NamesLowest l.streams (stops_in t.state) None) where
   -- no disk failed: the anchors of this run that are read of each stream stand in their distance
   pub thread_spaced : (j : ℕ) (content : List ℕ) → j < n → slice_get t.contents j ≡ Some content → AreSpaced (format_of mode) n j (length (anchors_of (slice_index_or start.log.streams j []))) (length (opened_at load start j)) content
   thread_spaced j content lt there =

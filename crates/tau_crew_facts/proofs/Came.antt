@@ -21,6 +21,7 @@ use Rattle.tau_core.specs.Opens.{nothing}
 use Rattle.tau_core.specs.State.{Plain}
 use Rattle.tau_core.specs.View.{core_of, setting_of}
 use Rattle.tau_core.specs.Pieces.{IsPieceOf, Paired, Spelled}
+use Rattle.tau_occ.specs.declared.style.Style.{Style}
 use Rattle.tau_run.specs.CoreRun.{AreAcks, IsGiven}
 use Rattle.tau_run.specs.Gives.{CameTo, came_far}
 use Rattle.tau_run.specs.StopsLeave.{HasFront, HasSomeFront, IsOver, NamesLowest, stops_in}
@@ -30,11 +31,11 @@ use Rattle.tau_run.proofs.Start.{started}
 use Rattle.tau_rule.specs.Holders.{LeadHeld}
 use Rattle.tau_rule.specs.Rule.{anchors_at}
 use Rattle.tau_crew_facts.specs.Writers.{HasPieces, HasEnough, HasWritten}
-use Rattle.tau_crew_facts.specs.Ends.{AreApart, IsClosed, ManagerEnds, IsThreadEnd, IsThreadDone}
+use Rattle.tau_crew_facts.specs.Ends.{AreApart, AreLasting, IsClosed, ManagerEnds, IsThreadEnd, IsThreadDone}
 use Rattle.tau_crew_facts.specs.Spacing.{IsSpacing}
-use Rattle.tau_crew_facts.specs.Threads.{in_threads, IsLowestFailed}
+use Rattle.tau_crew_facts.specs.Threads.{lasting, IsLowestFailed}
 use Rattle.tau_crew_facts.proofs.RunExists.{pieces_spelled, paired_front, loose_unplaced, acks_all}
-use Rattle.tau_crew_facts.proofs.Stops.{stopped_at, stops_by, stop_events, none_above, none_works, some_failed, stops_held, stops_led}
+use Rattle.tau_crew_facts.proofs.Stops.{stopped_at, stops_by, stop_events, none_above, none_works, persisted_before, some_failed, stops_held, stops_led}
 use Rattle.tau_base.proofs.Lists.{some_at, got_within}
 use Rattle.tau_base.proofs.Logic.{some_is}
 
@@ -75,8 +76,8 @@ module _ (l : Load) (c s : Core) (j : ℕ) (base : List ℕ) (same_moved : (s.st
 
 -- ---- the end, over any opening
 
-module _ {D : Type 0} {G : Ghosts D} (bases : ℕ → List ℕ) (first : Plain) (c : Core) (ws ws' : List (Writer D G)) (acks : List (ℕ × List ℕ)) (e : IsThreadEnd bases first c ws ws' acks) where
-  abbrev k : IsClosed first c
+module _ {D : Type 0} {G : Ghosts D} (bases : ℕ → List ℕ) (first : Plain) {style : Style} (c : Core) (ws ws' : List (Writer D G)) (acks : List (ℕ × List ℕ)) (e : IsThreadEnd bases first style c ws ws' acks) where
+  abbrev k : IsClosed first style c
   k = e.closed
 
   abbrev l : Load
@@ -98,8 +99,12 @@ module _ {D : Type 0} {G : Ghosts D} (bases : ℕ → List ℕ) (first : Plain) 
   pub led : machine.Run (setting_of l) (core_of first nothing) events k.joined s
   led = stops_led (setting_of l) (core_of first nothing) k.events k.joined c k.run k.going failed l.streams (omega arith)
 
-  pub all_held : LeadHeld (setting_of l) events (core_of first nothing) s k.joined
-  all_held = stops_held (setting_of l) (core_of first nothing) k.events k.joined c k.run k.going failed k.held l.streams (omega arith)
+  pub all_held : LeadHeld (setting_of l) style events (core_of first nothing) s k.joined
+  all_held = stops_held (setting_of l) (core_of first nothing) k.events k.joined c k.run k.going failed style k.held l.streams (omega arith)
+
+  -- no stop persists anything
+  pub lasts_on : AreLasting l events ws'
+  lasts_on j upto m w' is t = e.lasts j upto (persisted_before failed c.plv j upto k.events l.streams m) w' is t
 
   pub inv : Invariant (setting_of l) k.joined s
   inv = run_theorem (setting_of l) (core_of first nothing) events k.joined s led
@@ -162,8 +167,8 @@ module _ {D : Type 0} {G : Ghosts D} (bases : ℕ → List ℕ) (first : Plain) 
 
 -- ---- so far it has come
 
-module _ {D : Type 0} {G : Ghosts D} (bases : ℕ → List ℕ) (first : Plain) (long : (j : ℕ) → j < first.load.streams → length (bases j) ≡ slice_index first.load.opening.ends j) (c : Core) (ws ws' : List (Writer D G)) (acks : List (ℕ × List ℕ))
-    (e : IsThreadEnd bases first c ws ws' acks) where
+module _ {D : Type 0} {G : Ghosts D} (bases : ℕ → List ℕ) (first : Plain) {style : Style} (long : (j : ℕ) → j < first.load.streams → length (bases j) ≡ slice_index first.load.opening.ends j) (c : Core) (ws ws' : List (Writer D G)) (acks : List (ℕ × List ℕ))
+    (e : IsThreadEnd bases first style c ws ws' acks) where
   abbrev K : List (Act Txn)
   K = e.closed.joined
 
@@ -182,7 +187,7 @@ module _ {D : Type 0} {G : Ghosts D} (bases : ℕ → List ℕ) (first : Plain) 
       (λ j lt. (let x = managed_at j lt in (bytes_of x.2.taken, pieces_spelled first.load (anchors_at c) x.2.taken (c.streams j).moved x.2.moved)))
       (λ w t placed. absurd (let bad : None ≡ Some t = sym (loose_unplaced (c.workers w).hand (e.closed.loose w)) ∙ placed in cc bad))
 
-  abbrev pub came : CameTo in_threads bases first.load ws ws' acks
+  abbrev pub came : CameTo (lasting style ws') bases first.load ws ws' acks
   came = record {
     opening = core_of first nothing;
     first = started first.load first e.closed.opened;
@@ -190,7 +195,7 @@ module _ {D : Type 0} {G : Ghosts D} (bases : ℕ → List ℕ) (first : Plain) 
     events = events bases first c ws ws' acks e;
     joined = K;
     led = led bases first c ws ws' acks e;
-    part = (all_held bases first c ws ws' acks e, tt);
+    part = ((all_held bases first c ws ws' acks e, tt), lasts_on bases first c ws ws' acks e);
     contents = given.0;
     streams = given.1;
     given = given.2;
@@ -201,10 +206,13 @@ module _ {D : Type 0} {G : Ghosts D} (bases : ℕ → List ℕ) (first : Plain) 
   }
 
   -- managers that have kept their distance
-  pub apart_whole : AreApart bases first.load c → in_threads true first.load (core_of first nothing) (came_far came)
+  pub apart_whole : AreApart bases first.load c → lasting style ws' true first.load (core_of first nothing) (came_far came)
   apart_whole apart = (
-    all_held bases first c ws ws' acks e,
-    λ going j lt. subst (λ (k : ℕ). IsSpacing (slice_index first.load.opening.anchors.items j) k (slice_index c.plv j) (map (λ (v : List ℕ). slice_index v j) (c.streams j).anchors)) (long j lt) (apart j lt),
+    (
+      all_held bases first c ws ws' acks e,
+      λ going j lt. subst (λ (k : ℕ). IsSpacing (slice_index first.load.opening.anchors.items j) k (slice_index c.plv j) (map (λ (v : List ℕ). slice_index v j) (c.streams j).anchors)) (long j lt) (apart j lt),
+    ),
+    lasts_on bases first c ws ws' acks e,
   )
 
   -- the lowest failed disk is that of the lowest stopped stream

@@ -10,7 +10,7 @@ use Rattle.tau_base.specs.Vectors.{AtMost, covers}
 use Rattle.tau_base.proofs.Vectors.{at_most_itself}
 use Rattle.tau_disk.specs.declared.disk.Disk.{Ghosts}
 use Rattle.tau_stream.specs.declared.writer.Writer.{Writer}
-use Rattle.tau_stream.specs.Writer.{has_failed}
+use Rattle.tau_stream.specs.Writer.{disk_of, has_failed}
 use Rattle.tau_outbox.specs.declared.Piece.{Piece}
 use Rattle.tau_model.specs.History.{Act, Member}
 use Rattle.tau_machine.specs.Hands.{Hand, Txn}
@@ -25,19 +25,20 @@ use Rattle.tau_core.specs.Pieces.{IsPieceOf, Paired}
 use Rattle.tau_core.specs.State.{Plain}
 use Rattle.tau_core.specs.View.{core_of, setting_of, worker_of}
 use Rattle.tau_core.specs.declared.state.Load.{Load}
+use Rattle.tau_occ.specs.declared.style.Style.{Style}
 use Rattle.tau_run.specs.Run.{pair_of}
 use Rattle.tau_rule.specs.Knows.{Knows}
 use Rattle.tau_rule.specs.Role.{Managed, Share}
 use Rattle.tau_rule.specs.Rule.{IsManaged, IsShare, Now, anchors_at, clerk_role, manager_role}
-use Rattle.tau_crew_facts.specs.Writers.{HasWritten}
+use Rattle.tau_crew_facts.specs.Writers.{BecameDurable, HasWritten}
 use Rattle.tau_crew_facts.specs.Telling.{IsTelling}
 use Rattle.tau_crew_facts.specs.Spacing.{IsSpacing}
-use Rattle.tau_crew_facts.specs.Ends.{IsLoose, IsClosed, IsThreadEnd, IsThreadDone, AreApart}
+use Rattle.tau_crew_facts.specs.Ends.{AreLasting, IsLoose, IsClosed, IsThreadEnd, IsThreadDone, AreApart}
 use Rattle.tau_crew_facts.specs.Closing.{IsClosing, ManagerApart, ManagerKnows, WorkerDone, ManagerDone, ClerkDone, EndsBy, covered_count}
 use Rattle.tau_crew_facts.proofs.Telling.{pending_own}
 use Rattle.tau_crew_facts.proofs.Done.{gathered_by_views, told_by_views}
-use Rattle.tau_base.proofs.Logic.{below_or_not}
-use Rattle.tau_base.proofs.Lists.{same_list, got_within}
+use Rattle.tau_base.proofs.Logic.{below_or_not, some_is}
+use Rattle.tau_base.proofs.Lists.{same_list, got_within, some_at}
 use Rattle.tau_crew_facts.proofs.RunExists.{no_members}
 use Rattle.tau_model.proofs.Assembling.{member_mapped}
 use Rattle.tau_run.specs.Writers.{EachOf}
@@ -49,7 +50,7 @@ rest_unplaced o e = ap placed_in e
 abbrev rest_of : Worker
 rest_of = record { waiting = []; hand = None; left = []; committed = [] }
 
-module _ (first : Plain) (v : Knows) (workers : ℕ → Worker) (managers : ℕ → Managed) (acked : List (List Ticket)) (c : Now) (k : IsClosing first v workers managers acked c) where
+module _ (first : Plain) {style : Style} (v : Knows) (workers : ℕ → Worker) (managers : ℕ → Managed) (acked : List (List Ticket)) (c : Now) (k : IsClosing first style v workers managers acked c) where
   abbrev l : Load
   l = first.load
 
@@ -71,18 +72,18 @@ module _ (first : Plain) (v : Knows) (workers : ℕ → Worker) (managers : ℕ 
   worker_is : (w : ℕ) → w < l.workers → s.workers w ≡ workers w
   worker_is w lt =
       let r = k.worker w lt in
-      (subst (λ (x : Share). IsShare l w x s) r.2 (k.roles w r.0 r.1).0).1
+      (subst (λ (x : Share). IsShare l w x c) r.2 (k.roles w r.0 r.1).0).1
 
-  manager_is : (j : ℕ) → j < l.streams → IsManaged l j (managers j) s
+  manager_is : (j : ℕ) → j < l.streams → IsManaged l j (managers j) c
   manager_is j lt =
       let r = k.manager j lt in
-      let (i, e, there, m) = subst (λ (x : Share). IsShare l (manager_role l j) x s) r.2 (k.roles (manager_role l j) r.0 r.1).0 in
-      subst (λ (x : ℕ). IsManaged l x (managers j) s) (let same : i ≡ j = omega (arith, e) in same) m
+      let (i, e, there, m) = subst (λ (x : Share). IsShare l (manager_role l j) x c) r.2 (k.roles (manager_role l j) r.0 r.1).0 in
+      subst (λ (x : ℕ). IsManaged l x (managers j) c) (let same : i ≡ j = omega (arith, e) in same) m
 
   clerk_is_there : (w : ℕ) → w < l.workers → s.acked w ≡ slice_index_or acked w []
   clerk_is_there w lt =
       let r = k.clerk in
-      (subst (λ (x : Share). IsShare l (clerk_role l) x s) r.2 (k.roles (clerk_role l) r.0 r.1).0).1 w lt
+      (subst (λ (x : Share). IsShare l (clerk_role l) x c) r.2 (k.roles (clerk_role l) r.0 r.1).0).1 w lt
 
   seen_is_that : seen ≡ s.plv
   seen_is_that =
@@ -115,7 +116,7 @@ module _ (first : Plain) (v : Knows) (workers : ℕ → Worker) (managers : ℕ 
 
   module _ {D : Type 0} {G : Ghosts D} (bases : ℕ → List ℕ) (ws ws' : List (Writer D G)) (acks : List (ℕ × List ℕ)) (count : length ws ≡ l.streams) (loose : (w : ℕ) → w < l.workers → IsLoose (workers w).hand)
       (managed : EachOf (λ j w w'. ManagerKnows l seen j (bases j) (managers j) w w') ws ws') (telling : IsTelling l acked seen acks) where
-    closed : IsClosed first s
+    closed : IsClosed first style s
     closed = record {
       opened = k.meets.opened;
       events = k.meets.reached.events;
@@ -130,8 +131,18 @@ module _ (first : Plain) (v : Knows) (workers : ℕ → Worker) (managers : ℕ 
     low : (j : ℕ) (w : Writer D G) → slice_get ws j ≡ Some w → j < l.streams
     low j w is = let lt = got_within ws j w is in omega (arith, lt, count)
 
+    -- each position that was stored is one of those of its manager
+    pub lasts : AreLasting l k.meets.reached.events ws'
+    lasts j upto m w' is t =
+        let there : j < length ws = (let lt = got_within ws' j w' is in let same = managed.count in omega (arith, lt, same)) in
+        let w = some_at ws j there in
+        let x = managed.each j w.0 w.1 in
+        let stored : Member upto (managers j).stored = subst (λ (us : List ℕ). Member upto us) (manager_is j (omega (arith, there, count))).stored (k.meets.stored j upto m) in
+        subst (λ (v : Writer D G). BecameDurable G (format_of l.mode) l.streams j (disk_of v) upto) (some_is x.0 w' (sym x.1 ∙ is)) (x.2.lasts t upto stored)
+
     -- at whatever end
-    pub thread_end : IsThreadEnd bases first s ws ws' acks
+    pub thread_end : IsThreadEnd bases first style s ws ws' acks
+    unfolding closed
     thread_end = record {
       closed = closed;
       count = count;
@@ -152,6 +163,7 @@ module _ (first : Plain) (v : Knows) (workers : ℕ → Worker) (managers : ℕ 
               },
             ));
       };
+      lasts = lasts;
       clerk = record {
         told = λ w lt. telling.each w lt ∙ ap (map pair_of) (sym (clerk_is_there w lt));
         seen = seen;

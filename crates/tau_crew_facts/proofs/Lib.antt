@@ -1,4 +1,5 @@
 pub mod ManagerWriter
+pub mod Lasting
 pub mod Spacing
 pub mod Telling
 pub mod Stops

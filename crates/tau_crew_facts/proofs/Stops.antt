@@ -4,14 +4,16 @@ use Rattle.std.specs.Prelude.{Option, Some, None, if◌then◌else◌}
 use Rattle.std.proofs.Math.Path.{fun_ext}
 use Rattle.std.proofs.lemmas.Bool.{cases_Bool, cases_eq}
 use Rattle.std.proofs.lemmas.List.{append-nil}
-use Rattle.tau_model.specs.History.{Act}
+use Rattle.tau_model.specs.History.{Act, Member}
 use Rattle.tau_machine.specs.Hands.{Txn}
 use Rattle.tau_machine.specs.Shard.{at}
 use Rattle.tau_machine.specs.State.{Setting, Stream, Core}
-use Rattle.tau_machine.specs.Events.{Event, Stop, Stops, with_stream}
+use Rattle.tau_machine.specs.Events.{Event, Persist, Stop, Stops, with_stream}
 use Rattle.tau_machine.specs.Runs.{Run}
 use Rattle.tau_machine.proofs.At.{at_same, at_other}
+use Rattle.tau_machine.proofs.Snoc.{member_snoc}
 use Rattle.tau_machine.proofs.Results.{run_theorem, goes_on_theorem}
+use Rattle.tau_occ.specs.declared.style.Style.{Style}
 use Rattle.tau_rule.specs.Holders.{LeadHeld}
 use Rattle.tau_rule.proofs.Holders.{held_more}
 
@@ -27,6 +29,23 @@ stops_by f plv (suc k) = if f k then at k (Some (slice_index plv k)) (stops_by f
 abbrev pub stop_events : (ℕ → Bool) → List ℕ → ℕ → List Event
 stop_events f plv zero = []
 stop_events f plv (suc k) = stop_events f plv k ++ (if f k then Stop k (slice_index plv k) ∷ [] else [])
+
+-- a position that is persisted was so before the stops
+pub persisted_before : (f : ℕ → Bool) (plv : List ℕ) (j upto : ℕ) (events : List Event) (k : ℕ) → Member (Persist j upto) (events ++ stop_events f plv k) → Member (Persist j upto) events
+persisted_before f plv j upto events zero m = subst (λ (es : List Event). Member (Persist j upto) es) (append-nil events) m
+persisted_before f plv j upto events (suc k) m = elim (cases_Bool (f k)) [
+  | inl failed ↦
+      let all : events ++ stop_events f plv (suc k) ≡ (events ++ stop_events f plv k) ++ Stop k (slice_index plv k) ∷ [] =
+      ap (λ (b : Bool). events ++ (stop_events f plv k ++ (if b then Stop k (slice_index plv k) ∷ [] else []))) failed ∙ sym (append_assoc events (stop_events f plv k) (Stop k (slice_index plv k) ∷ [])) in
+      elim (member_snoc (events ++ stop_events f plv k) (Stop k (slice_index plv k)) (Persist j upto) (subst (λ (es : List Event). Member (Persist j upto) es) all m)) [
+        | inl was ↦ persisted_before f plv j upto events k was
+        | inr is ↦ absurd (let bad : Stop k (slice_index plv k) ≡ Persist j upto = is in cc bad)
+      ]
+  | inr works ↦
+      let none : events ++ stop_events f plv (suc k) ≡ events ++ stop_events f plv k =
+      ap (λ (b : Bool). events ++ (stop_events f plv k ++ (if b then Stop k (slice_index plv k) ∷ [] else []))) works ∙ ap (λ (es : List Event). events ++ es) (append-nil (stop_events f plv k)) in
+      persisted_before f plv j upto events k (subst (λ (es : List Event). Member (Persist j upto) es) none m)
+]
 
 -- ---- what the function tells
 
@@ -112,7 +131,7 @@ module _ (set : Setting) (opening : Core) (events : List Event) (K : List (Act T
       (λ es s s' j at r stop. subst (λ (ts : List (Act Txn)). Run set opening (es ++ Stop j at ∷ []) ts s') (append-nil K) ((goes_on_theorem set opening).1 es K s s' (Stop j at) [] r (stop, refl))) events run k le
 
   -- no stop is a Busy
-  pub stops_held : LeadHeld set events opening c K → (k : ℕ) → k ≤ set.width → LeadHeld set (events ++ stop_events f c.plv k) opening (stopped_at (stops_by f c.plv k) c) K
-  stops_held held k le =
-      stopped_all set c high going f (λ es s. LeadHeld set es opening s K)
-      (λ es s s' j at r stop. subst (λ (ts : List (Act Txn)). LeadHeld set (es ++ Stop j at ∷ []) opening s' ts) (append-nil K) (held_more set es K opening s s' (Stop j at) [] r (stop, refl) tt)) events held k le
+  pub stops_held : (style : Style) → LeadHeld set style events opening c K → (k : ℕ) → k ≤ set.width → LeadHeld set style (events ++ stop_events f c.plv k) opening (stopped_at (stops_by f c.plv k) c) K
+  stops_held style held k le =
+      stopped_all set c high going f (λ es s. LeadHeld set style es opening s K)
+      (λ es s s' j at r stop. subst (λ (ts : List (Act Txn)). LeadHeld set style (es ++ Stop j at ∷ []) opening s' ts) (append-nil K) (held_more set style es K opening s s' (Stop j at) [] r (stop, refl) tt)) events held k le

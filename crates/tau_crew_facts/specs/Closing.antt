@@ -5,7 +5,7 @@ use Rattle.tau_base.specs.Modes.{format_of}
 use Rattle.tau_base.specs.Vectors.{covers}
 use Rattle.tau_disk.specs.declared.disk.Disk.{Ghosts}
 use Rattle.tau_stream.specs.declared.writer.Writer.{Writer}
-use Rattle.tau_stream.specs.Writer.{IsReady}
+use Rattle.tau_stream.specs.Writer.{disk_of, IsReady}
 use Rattle.tau_outbox.specs.Pieces.{PlainOutbox}
 use Rattle.tau_ack.specs.Pending.{PlainPending}
 use Rattle.tau_model.specs.History.{Member}
@@ -17,15 +17,16 @@ use Rattle.tau_machine.specs.Accounts.{in_calls, in_worker}
 use Rattle.tau_core.specs.Opens.{calls_of}
 use Rattle.tau_core.specs.State.{Plain}
 use Rattle.tau_core.specs.declared.state.Load.{Load}
+use Rattle.tau_occ.specs.declared.style.Style.{Style}
 use Rattle.tau_rule.specs.Knows.{Knows}
 use Rattle.tau_rule.specs.Role.{Managed, Role, Working, Managing, Clerking}
 use Rattle.tau_rule.specs.Rule.{IsOutbox, IsRole, Meets, Now, Sees, anchors_at, clerk_role, has, manager_role}
-use Rattle.tau_crew_facts.specs.Writers.{HasWritten}
+use Rattle.tau_crew_facts.specs.Writers.{AllBecameDurable, HasWritten}
 use Rattle.tau_crew_facts.specs.Spacing.{IsSpacing}
 
 -- A desk closes with a head that has every role: these workers, these managers, and these acknowledged calls of each worker. All that it knows is of one state c, and all outboxes are at home.
-pub record IsClosing (first : Plain) (v : Knows) (workers : ℕ → Worker) (managers : ℕ → Managed) (acked : List (List Ticket)) (c : Now) : Type 0 where
-  pub meets : Meets first c
+pub record IsClosing (first : Plain) (style : Style) (v : Knows) (workers : ℕ → Worker) (managers : ℕ → Managed) (acked : List (List Ticket)) (c : Now) : Type 0 where
+  pub meets : Meets first style c
   pub sees : Sees first c v
   pub roles : (u : ℕ) (r : Role) → has u v ≡ Some r → IsRole first.load u r c
   pub worker : (w : ℕ) → w < first.load.workers → (r : Role) × (has w v ≡ Some r) × (r.share ≡ Working (workers w))
@@ -39,6 +40,7 @@ pub record IsClosing (first : Plain) (v : Knows) (workers : ℕ → Worker) (man
 pub record ManagerKnows {D : Type 0} {G : Ghosts D} (l : Load) (seen : List ℕ) (j : ℕ) (base : List ℕ) (g : Managed) (w w' : Writer D G) : Type 0 where
   pub ready : G.tells → IsReady (format_of l.mode) l.streams j w base
   pub written : HasWritten (format_of l.mode) l.streams j base g.taken (slice_index seen j) w w'
+  pub lasts : G.tells → AllBecameDurable G (format_of l.mode) l.streams j (disk_of w') g.stored
 
 -- the own components of its anchors stand in their distance up to what it has stored
 abbrev pub ManagerApart : Load → List ℕ → ℕ → List ℕ → Managed → Type 0

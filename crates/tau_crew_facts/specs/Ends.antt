@@ -12,18 +12,19 @@ use Rattle.tau_model.specs.History.{Act, Member}
 use Rattle.tau_machine.specs.Hands.{Txn, Hand, act_in}
 use Rattle.tau_machine.specs.State.{Ticket, Core}
 use Rattle.tau_machine.specs.Accounts.{in_worker}
-use Rattle.tau_machine.specs.Events.{Event}
+use Rattle.tau_machine.specs.Events.{Event, Persist}
 use Rattle.tau_machine.specs.Runs as machine
 use Rattle.tau_core.specs.Opens.{Opened, nothing}
 use Rattle.tau_core.specs.Pieces.{IsPieceOf, Paired}
 use Rattle.tau_core.specs.State.{Plain}
 use Rattle.tau_core.specs.View.{core_of, setting_of, worker_of}
 use Rattle.tau_core.specs.declared.state.Load.{Load}
+use Rattle.tau_occ.specs.declared.style.Style.{Style}
 use Rattle.tau_run.specs.Run.{pair_of}
 use Rattle.tau_rule.specs.Holders.{LeadHeld}
 use Rattle.tau_rule.specs.Rule.{anchors_at}
 use Rattle.tau_run.specs.Writers.{EachOf}
-use Rattle.tau_crew_facts.specs.Writers.{HasWritten}
+use Rattle.tau_crew_facts.specs.Writers.{BecameDurable, HasWritten}
 use Rattle.tau_crew_facts.specs.Spacing.{IsSpacing}
 
 -- ---- the state of the desk at its close
@@ -34,13 +35,13 @@ IsLoose None = Unit {0}
 IsLoose (Some h) = (act_in (Some h) ≡ None) × (h.held ≡ [])
 
 -- Events lead to this state from the core `first`, with which the desk was opened, and no stream was stopped; each worker that
--- was Busy by one of them was barred; each outbox is at home.
-pub record IsClosed (first : Plain) (c : Core) : Type 0 where
+-- was Busy by one of them had a cause; each outbox is at home.
+pub record IsClosed (first : Plain) (style : Style) (c : Core) : Type 0 where
   pub opened : Opened first.load first
   pub events : List Event
   pub joined : List (Act Txn)
   pub run : machine.Run (setting_of first.load) (core_of first nothing) events joined c
-  pub held : LeadHeld (setting_of first.load) events (core_of first nothing) c joined
+  pub held : LeadHeld (setting_of first.load) style events (core_of first nothing) c joined
   pub going : (j : ℕ) → (c.streams j).stop ≡ None
   pub loose : (w : ℕ) → IsLoose (c.workers w).hand
   pub boxes : (w : ℕ) → w < first.load.workers → (pieces : List Piece) × Paired (IsPieceOf first.load (anchors_at c)) pieces (c.outboxes w).posted
@@ -55,6 +56,10 @@ pub record ManagerEnds {D : Type 0} {G : Ghosts D} (l : Load) (c : Core) (j : �
   pub ready : G.tells → IsReady (format_of l.mode) l.streams j w base
   pub written : HasWritten (format_of l.mode) l.streams j base taken (slice_index c.plv j) w w'
 
+-- Each position that these events persist was just what was durable of its stream at some moment, and every image of the disk since then holds at least so much.
+abbrev pub AreLasting : {D : Type 0} {G : Ghosts D} → Load → List Event → List (Writer D G) → Type 0
+AreLasting {D} {G} l events ws' = (j upto : ℕ) → Member (Persist j upto) events → (w' : Writer D G) → slice_get ws' j ≡ Some w' → G.tells → BecameDurable G (format_of l.mode) l.streams j (disk_of w') upto
+
 -- The clerk has told the calls of each worker in their order, and each with a vector that it had seen to be persisted.
 pub record ClerkEnds (l : Load) (c : Core) (acks : List (ℕ × List ℕ)) : Type 0 where
   pub told : (w : ℕ) → w < l.workers → filter (λ (a : ℕ × List ℕ). worker_of l.workers a.0 == w) acks ≡ map pair_of (c.acked w)
@@ -63,10 +68,11 @@ pub record ClerkEnds (l : Load) (c : Core) (acks : List (ℕ × List ℕ)) : Typ
   pub licensed : (a : ℕ × List ℕ) → Member a acks → AtMost a.1 seen
 
 -- A run in threads from the core `first` on streams that had these bytes, at whatever end, out of memory too.
-pub record IsThreadEnd {D : Type 0} {G : Ghosts D} (bases : ℕ → List ℕ) (first : Plain) (c : Core) (ws ws' : List (Writer D G)) (acks : List (ℕ × List ℕ)) : Type 0 where
-  pub closed : IsClosed first c
+pub record IsThreadEnd {D : Type 0} {G : Ghosts D} (bases : ℕ → List ℕ) (first : Plain) (style : Style) (c : Core) (ws ws' : List (Writer D G)) (acks : List (ℕ × List ℕ)) : Type 0 where
+  pub closed : IsClosed first style c
   pub count : length ws ≡ first.load.streams
   pub managers : EachOf (λ j w w'. ManagerEnds first.load c j (bases j) w w') ws ws'
+  pub lasts : AreLasting first.load closed.events ws'
   pub clerk : ClerkEnds first.load c acks
 
 -- The run went to its end: no call is in hand and none was given up; what was placed in a stream is persisted, unless its

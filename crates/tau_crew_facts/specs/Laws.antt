@@ -5,6 +5,7 @@ use Rattle.tau_stream.specs.declared.writer.Writer.{Writer}
 use Rattle.tau_stream.specs.Writer.{disk_of, durable_of, has_failed}
 use Rattle.tau_base.specs.declared.format.Format.{Format}
 use Rattle.tau_outbox.specs.declared.Piece.{Piece}
+use Rattle.tau_occ.specs.declared.style.Style.{Style}
 use Rattle.tau_crew_facts.specs.Writers.{HasLong, HasWritten}
 use Rattle.tau_model.specs.History.{Act}
 use Rattle.tau_machine.specs.Events.{Event, Leads}
@@ -21,7 +22,7 @@ use Rattle.tau_crew_facts.specs.Closing.{ClerkDone, IsClosing, ManagerApart, Man
 use Rattle.tau_crew_facts.specs.Ends.{AreApart, IsLoose, IsThreadDone, IsThreadEnd}
 use Rattle.tau_crew_facts.specs.Spacing.{Flushes, IsSpacing, newest, placed_after}
 use Rattle.tau_crew_facts.specs.Telling.{IsTelling}
-use Rattle.tau_crew_facts.specs.Threads.{in_threads}
+use Rattle.tau_crew_facts.specs.Threads.{lasting}
 use Rattle.tau_run.specs.Keeping.{Keeps, KeepsOf, Steady}
 
 -- anchors that are placed after each flush that makes them due, as long as the stream may have one more, stand in their distance,
@@ -47,17 +48,17 @@ module _ {D : Type 0} (G : Ghosts D) where
   -- a desk that closes ends a run, with what the loops know of their own at their ends
   abbrev pub ClosedDesksEnd : Type 0
   ClosedDesksEnd =
-      (first : Plain) (v : Knows) (workers : ℕ → Worker) (managers : ℕ → Managed) (acked : List (List Ticket)) (c : Now) → IsClosing first v workers managers acked c → (bases : ℕ → List ℕ) (ws ws' : List (Writer D G)) (acks : List (ℕ × List ℕ)) →
+      (first : Plain) (style : Style) (v : Knows) (workers : ℕ → Worker) (managers : ℕ → Managed) (acked : List (List Ticket)) (c : Now) → IsClosing first style v workers managers acked c → (bases : ℕ → List ℕ) (ws ws' : List (Writer D G)) (acks : List (ℕ × List ℕ)) →
       length ws ≡ first.load.streams → ((w : ℕ) → w < first.load.workers → IsLoose (workers w).hand) → EachOf (λ j w w'. ManagerKnows first.load v.seen j (bases j) (managers j) w w') ws ws' → IsTelling first.load acked v.seen acks →
-      IsThreadEnd bases first c.core ws ws' acks
+      IsThreadEnd bases first style c.core ws ws' acks
       × (((j : ℕ) → j < first.load.streams → ManagerApart first.load v.seen j (bases j) (managers j)) → AreApart bases first.load c.core)
       × (((w : ℕ) → w < first.load.workers → WorkerDone first.load w (workers w)) →
       ((j : ℕ) (w' : Writer D G) → slice_get ws' j ≡ Some w' → has_failed w' ≡ false → ManagerDone first.load v.seen workers j (managers j)) →
       ((w : ℕ) → w < first.load.workers → ClerkDone v.seen (workers w) (slice_index_or acked w [])) →
       (((j : ℕ) (w' : Writer D G) → slice_get ws' j ≡ Some w' → has_failed w' ≡ false) → (w : ℕ) → w < first.load.workers → ((workers w).waiting ≡ []) × ((workers w).left ≡ [])) → IsThreadDone first.load c.core ws')
 
-  -- and that is a run of the core, by events in any order
+  -- and that is a run of the core, by events in any order, in the style of the desk
   abbrev pub EndsAreRuns : Type 0
   EndsAreRuns =
-      (bases : ℕ → List ℕ) (first : Plain) → ((j : ℕ) → j < first.load.streams → length (bases j) ≡ slice_index first.load.opening.ends j) → (c : Core) (ws ws' : List (Writer D G)) (acks : List (ℕ × List ℕ)) → IsThreadEnd bases first c ws ws' acks →
-      CameTo in_threads bases first.load ws ws' acks
+      (bases : ℕ → List ℕ) (first : Plain) (style : Style) → ((j : ℕ) → j < first.load.streams → length (bases j) ≡ slice_index first.load.opening.ends j) → (c : Core) (ws ws' : List (Writer D G)) (acks : List (ℕ × List ℕ)) → IsThreadEnd bases first style c ws ws' acks →
+      CameTo (lasting style ws') bases first.load ws ws' acks

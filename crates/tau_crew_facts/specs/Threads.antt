@@ -6,9 +6,11 @@ use Rattle.tau_stream.specs.Writer.{has_failed}
 use Rattle.tau_machine.specs.State.{Core}
 use Rattle.tau_core.specs.View.{setting_of}
 use Rattle.tau_core.specs.declared.state.Load.{Load}
+use Rattle.tau_occ.specs.declared.style.Style.{Style}
 use Rattle.tau_run.specs.StopsLeave.{NamesLowest, stops_in}
 use Rattle.tau_run.specs.Turns.{Progress}
 use Rattle.tau_rule.specs.Holders.{LeadHeld}
+use Rattle.tau_crew_facts.specs.Ends.{AreLasting}
 use Rattle.tau_crew_facts.specs.Spacing.{IsSpacing}
 
 -- of a whole run in which no stream was stopped the anchors of each stream stand in their distance, from where it ended at the opening
@@ -17,9 +19,13 @@ KeepsApart true l p = NamesLowest l.streams (stops_in p.state) None → (j : ℕ
 KeepsApart false l p = Unit {0}
 
 -- The events of a run in threads come in any order; but a worker is Busy only if another one holds the key that it wants, in a
--- mode that conflicts.
-abbrev pub in_threads : Bool → Load → Core → Progress → Type 0
-in_threads whole l opening p = LeadHeld (setting_of l) p.events opening p.state p.joined × KeepsApart whole l p
+-- mode that conflicts, or, in the style Optimistic, if it is to read.
+abbrev pub in_threads : Style → Bool → Load → Core → Progress → Type 0
+in_threads style whole l opening p = LeadHeld (setting_of l) style p.events opening p.state p.joined × KeepsApart whole l p
+
+-- And each position that a manager stored was durable by then, and stays so: at every moment since some moment the disk of its stream holds at least so much.
+abbrev pub lasting : {D : Type 0} {G : Ghosts D} → Style → List (Writer D G) → Bool → Load → Core → Progress → Type 0
+lasting {D} {G} style ws' whole l opening p = in_threads style whole l opening p × AreLasting l p.events ws'
 
 -- no disk failed
 abbrev pub NoneFailed : {D : Type 0} {G : Ghosts D} → List (Writer D G) → Type 0

@@ -5,6 +5,7 @@ use Rattle.tau_block.specs.Image.{HasContent}
 use Rattle.tau_disk.specs.Disk.{Passes, Rose}
 use Rattle.tau_disk.specs.Used.{GoesOn, IsStopped}
 use Rattle.tau_disk.specs.declared.disk.Disk.{Ghosts}
+use Rattle.tau_model.specs.History.{Member}
 use Rattle.tau_outbox.specs.declared.Piece.{Piece}
 use Rattle.tau_outbox.specs.Pieces.{bytes_of}
 use Rattle.tau_stream.specs.declared.writer.Writer.{Writer}
@@ -24,6 +25,19 @@ HasEnough format n j base taken low image = (p : HasPieces format n j base taken
 -- the image has a content of at least this length
 abbrev pub HasLong : Format → ℕ → ℕ → ℕ → List ℕ → Type 0
 HasLong format n j d x = (content : List ℕ) × HasContent format n j content x × (d ≤ length content)
+
+-- Since this moment every image of the disk holds at least so much content, and some image no more: at that moment just so much was durable.
+pub record IsDurableSince {D : Type 0} (G : Ghosts D) (format : Format) (n j : ℕ) (d : D) (moment upto : ℕ) : Type 0 where
+  pub long : (x : List ℕ) → G.may_leave_since d moment x → HasLong format n j upto x
+  pub no_more : (x : List ℕ) × G.may_leave_since d moment x × ((more : ℕ) → HasLong format n j more x → more ≤ upto)
+
+-- just so much was durable at some moment up to now, and has been since
+abbrev pub BecameDurable : {D : Type 0} → Ghosts D → Format → ℕ → ℕ → D → ℕ → Type 0
+BecameDurable {D} G format n j d upto = (moment : ℕ) × (moment ≤ G.moment d) × IsDurableSince G format n j d moment upto
+
+-- each of these positions did
+abbrev pub AllBecameDurable : {D : Type 0} → Ghosts D → Format → ℕ → ℕ → D → List ℕ → Type 0
+AllBecameDurable {D} G format n j d stored = (upto : ℕ) → Member upto stored → BecameDurable G format n j d upto
 
 -- the laws of a disk, as its trait has them
 abbrev pub SeenNow : {D : Type 0} → Ghosts D → Type 0
