@@ -37,3 +37,5 @@ pub mod ResumeLowest
 pub mod ResumeSplits
 pub mod OwnCount
 pub mod Lasts
+mod PeekedCall
+mod Peeking

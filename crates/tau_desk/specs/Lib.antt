@@ -15,3 +15,4 @@ pub mod Laid
 pub mod Taken
 pub mod Ends
 pub mod Resumes
+pub mod Peeks

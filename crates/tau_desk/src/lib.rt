@@ -18,6 +18,7 @@ mod mark;
 mod name;
 mod opens;
 mod own_records;
+mod peeks;
 mod resumes;
 mod room;
 mod seat;

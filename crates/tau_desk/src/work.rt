@@ -28,7 +28,7 @@ use tau_txn::{ActionKind, Txn};
 pub enum Acted {
     /// It was done.
     Went,
-    /// Another worker holds the key.
+    /// Another worker holds the key, or the row is not what an optimistic worker has peeked.
     Busy,
     /// The call's next action is another one.
     Other,

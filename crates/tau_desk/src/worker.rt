@@ -413,7 +413,7 @@ fn undo(work: &mut Work)
 }
 
 /// A call that is left over goes to the others that are.
-fn leave(work: &mut Work, procs: &Procs)
+pub(crate) fn leave(work: &mut Work, procs: &Procs)
     requires run { RunsBy procs.now work.old.txn }
     requires room { is_some work.old.txn.hand ≡ true → 1 ≤ work.old.left_room }
     ensures { Leaves work.old work.new }
