@@ -58,7 +58,7 @@ module _ (n m : ℕ) (mode : LogMode) (load : Workload) (start : Start) (rows : 
   -- no event was chosen, by turns or in threads
   none_chosen : (turns : Option (List Turn)) → ran_by turns n m load false l opening (begun opening)
   none_chosen None = ((refl, refl), tt)
-  none_chosen (Some turns) = ((λ w. []), todos_of (setting_of l) m n (turns_of load), here)
+  none_chosen (Some turns) = ((λ w. []), (todos_of (setting_of l) m n (turns_of load), here))
 
   core : IsCoreRun (ran_by load.turns n m load false) n m mode load (λ j. None) run
   core = record {

@@ -200,7 +200,7 @@ module _ (n m : ℕ) (mode : LogMode) (load : Workload) (some : 1 ≤ n) (room :
     first = starts;
     progress = begun first;
     led = led;
-    chosen = chosen load.turns false n m load l first (begun first) ((λ w. []), todos_of (setting_of l) m n (turns_of load), here);
+    chosen = chosen load.turns false n m load l first (begun first) ((λ w. []), (todos_of (setting_of l) m n (turns_of load), here));
     is = is_run;
     told = refl;
     stopped = λ j lt. refl;

@@ -254,7 +254,7 @@ module _ {D : Type 0} {G : Ghosts D} (only_now : OnlyNow G) (n m : ℕ) (mode : 
     leaves_now = leaves G n way l s streams_are old new there all stop_low
 
     abbrev with_sink : Output → DisksAndSink D
-    with_sink out = record { old = old; new = new; sink = o }
+    with_sink out = record { old = old; new = new; sink = out }
 
     abbrev known : Output → Outside
     known out = outside_of G n f (with_sink out) start barrier

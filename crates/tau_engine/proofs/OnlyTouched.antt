@@ -131,7 +131,7 @@ module _ {D : Type 0} {G : Ghosts D} (only_now : OnlyNow G) (n m : ℕ) (mode : 
     abbrev rows_are : db_of_rows begun.opening.rows ≡ start.base
     rows_are = (on.opening_on G (format_of mode) n load old there sizes starts begun begun.opening refl).rows
 
-    pub has_nothing : (answer : Status) → EndsRun answer → none.MayEnd n m mode load start begun.opening.rows some room workers begins sound rows_are (ending_of answer) →
+    has_nothing : (answer : Status) → EndsRun answer → none.MayEnd n m mode load start begun.opening.rows some room workers begins sound rows_are (ending_of answer) →
         RunTells n mode load known (λ j. None) (none.run n m mode load start begun.opening.rows some room workers begins sound rows_are) (ending_of answer) →
         ((j : ℕ) → answer ≡ status.DiskFault j → FailsStarting G n m mode load with_sink answer j) → (DisksWorked n (RoseAt G.faults old new) answer → ⊥) → HasRun G n m mode load with_sink answer
     has_nothing answer ends may told fails broke = record {

@@ -119,8 +119,8 @@ module _ {D : Type 0} (G : Ghosts D) where
   EndsAt n old new None = EachUsed (IsClean G.tells G.number G.fails) old new n
   EndsAt n old new (Some j) = (j < n) × IsFirstStopped G.tells G.number G.fails G.short old new j
 
-  -- what a drill knows of its run: on disks that held nothing, of what a stop now may leave; its sink has the lines of the
-  -- acknowledgements alone, and does not fail
+  -- What a drill knows of its run: its disks held nothing, and an image is one that a stop now may leave. Of its sink it says
+  -- here only that it does not fail; what the sink has is told beside it.
   abbrev pub outside_of_drill : ℕ → List D → List D → Outside
   outside_of_drill n old new = record {
     start = fresh_start n;
