@@ -14,11 +14,12 @@ use Rattle.tau_desk.specs.declared.desk.Desk.{Desk}
 use Rattle.tau_desk.specs.Manages.{OnlyRoom, PlacesAnchor, told_raised}
 use Rattle.tau_desk.specs.Seats.{PlainManagerSeat}
 use Rattle.tau_crew_facts.specs.Spacing.{IsSpacing, newest}
-use Rattle.tau_crew_facts.specs.Writers.{HasWritten}
+use Rattle.tau_crew_facts.specs.Writers.{AllBecameDurable, HasWritten}
 use Rattle.tau_crew_facts.proofs.Spacing.{newest_more, spacing_places, spacing_stays}
-use Rattle.tau_crew.specs.Gathering.{AreLong, raised_in, taken_in}
+use Rattle.tau_crew.specs.Gathering.{AreLong, raised_in, stored_in, taken_in}
 use Rattle.tau_disk.specs.declared.disk.Disk.{Ghosts}
 use Rattle.tau_stream.specs.declared.writer.Writer.{Writer}
+use Rattle.tau_stream.specs.Writer.{disk_of}
 use Rattle.tau_base.specs.declared.limits.TheConstants.{ANCHOR_BYTES, MAX_ANCHORS}
 use Rattle.tau_crew.specs.Driving.{IsApart, IsBlock, IsDriven, IsDrivenShort, KeepsSeat, anchors_in, before_of, own_of}
 use Rattle.tau_crew.proofs.Driving.{driven_same}
@@ -32,7 +33,7 @@ set_elsewhere (y ∷ xs) (suc i) zero x ne = refl
 set_elsewhere (y ∷ xs) (suc i) (suc j) x ne = set_elsewhere xs i j x (λ e. ne (ap suc e))
 
 pub keeps_itself : (s : PlainManagerSeat) → KeepsSeat s s
-keeps_itself s = record { table = refl; stream = refl; opened = refl; raised = refl; taken = refl; gathered = refl; stored = refl; long = λ a. a }
+keeps_itself s = record { table = refl; stream = refl; opened = refl; raised = refl; taken = refl; gathered = refl; stored = refl; all_stored = refl; long = λ a. a }
 
 pub keeps_same : (s s' : PlainManagerSeat) → s' ≡ s → KeepsSeat s s'
 keeps_same s s' e = subst (λ (x : PlainManagerSeat). KeepsSeat s x) (sym e) (keeps_itself s)
@@ -46,6 +47,7 @@ keeps_on s1 s2 s3 p q = record {
   taken = q.taken ∙ p.taken;
   gathered = q.gathered ∙ p.gathered;
   stored = subst (λ (j : ℕ). slice_index s3.seen j ≡ slice_index s2.seen j) p.stream q.stored ∙ p.stored;
+  all_stored = q.all_stored ∙ p.all_stored;
   long = λ a. q.long (p.long a);
 }
 
@@ -59,6 +61,7 @@ keeps_room s s' (o, e) = record {
   taken = ap taken_in e;
   gathered = o.gathered;
   stored = ap (λ (x : PlainManagerSeat). slice_index x.seen s.stream) e;
+  all_stored = ap stored_in e;
   long = λ a. subst AreLong (sym o.pieces) a;
 }
 
@@ -74,6 +77,7 @@ keeps_placed l s s' p =
       taken = ap taken_in p.after;
       gathered = p.puts.gathered;
       stored = ap (λ (x : PlainManagerSeat). slice_index x.seen s.stream) p.after;
+      all_stored = ap stored_in p.after;
       long = λ a. subst AreLong (sym p.puts.pieces) (long_append s.stock.own.pieces (record { start = p.start; bytes = p.bytes } ∷ []) a (five, tt));
     }
 
@@ -129,14 +133,15 @@ apart_places base before durable last placed s s' v a block few due stream opene
 -- such a step leaves what the loop keeps
 pub driven_keeps : {D : Type 0} {G : Ghosts D} (format : Format) (n j : ℕ) (base : List ℕ) (w0 : Writer D G) (s s' : PlainManagerSeat) (w : Writer D G) → IsDriven format n j base w0 s w → KeepsSeat s s' → IsDriven format n j base w0 s' w
 driven_keeps format n j base w0 s s' w d k =
-    driven_same format n j base w0 s s' w d k.stream k.taken (subst (λ (i : ℕ). slice_index s'.seen i ≡ slice_index s.seen i) d.stream k.stored) k.gathered (k.long d.long) k.raised
+    driven_same format n j base w0 s s' w d k.stream k.taken (subst (λ (i : ℕ). slice_index s'.seen i ≡ slice_index s.seen i) d.stream k.stored) k.gathered (k.long d.long) k.raised k.all_stored
 
 -- the stop was raised
 pub short_stopped : {D : Type 0} {G : Ghosts D} (format : Format) (n j : ℕ) (base : List ℕ) (w0 : Writer D G) (s s' : PlainManagerSeat) (w : Writer D G) → IsDrivenShort format n j base w0 s w → s' ≡ record s { me = (told_raised s.me.0, s.me.1) } → IsDrivenShort format n j base w0 s' w
-short_stopped format n j base w0 s s' w d e = record {
+short_stopped {D} {G} format n j base w0 s s' w d e = record {
   stream = ap (λ (x : PlainManagerSeat). x.stream) e ∙ d.stream;
   stored = ap (λ (x : PlainManagerSeat). slice_index x.seen j) e ∙ d.stored;
   written =
       subst (λ (ps : List Piece). HasWritten format n j base ps (slice_index s'.seen j) w0 w) (sym (ap taken_in e))
       (subst (λ (k : ℕ). HasWritten format n j base (taken_in s) k w0 w) (sym (ap (λ (x : PlainManagerSeat). slice_index x.seen j) e)) d.written);
+  lasts = λ t. subst (λ (us : List ℕ). AllBecameDurable G format n j (disk_of w) us) (sym (ap stored_in e)) (d.lasts t);
 }

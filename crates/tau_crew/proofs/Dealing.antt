@@ -12,12 +12,12 @@ use Rattle.tau_core.specs.State.{Plain}
 use Rattle.tau_rule.specs.First.{clerk_share, first_view, manager_share, outer_share, role_at, share_at, worker_share}
 use Rattle.tau_rule.specs.Heads.{left_by, role_or, split_off}
 use Rattle.tau_rule.specs.Knows.{Knows}
-use Rattle.tau_rule.specs.Role.{Managed, Role, role_in}
+use Rattle.tau_rule.specs.Role.{Managed, Role, managed_in_share, role_in}
 use Rattle.tau_rule.specs.Rule.{clerk_role, has, manager_role}
 use Rattle.tau_rule.specs.Steps.{Sat}
 use Rattle.tau_desk.specs.Ends.{IsFirst, IsManagerSplit, IsWhole}
 use Rattle.tau_desk.specs.Shares.{PlainStock}
-use Rattle.tau_desk.specs.Manages.{managed_in, managed_in_share}
+use Rattle.tau_desk.specs.Manages.{managed_in}
 use Rattle.tau_desk.specs.Seats.{Heads, Manages, PlainHead, PlainManagerSeat}
 use Rattle.tau_crew_facts.specs.Writers.{SeenNow}
 use Rattle.tau_crew.specs.declared.manager.ManagerJob.{ManagerJob}
@@ -80,7 +80,7 @@ dealt {D} {G} seen_now first table bases k h h' w job d lt split manages new lon
     let begun : IsManagerAt (format_of first.load.mode) first.load.streams k (bases k) w s w (length (bases k)) 0 false =
     manager_begins seen_now (format_of first.load.mode) first.load.streams k (bases k) s w new split.stream (ap (λ (g : Managed). g.taken) managed) (ap (λ (v : List ℕ). slice_index v k) (split.seen ∙ d.seen) ∙ sym long)
     (sym (managed_gathered s manages) ∙ ap (λ (g : Managed). g.gathered) managed ∙ base_is) (sym (managed_anchors s manages) ∙ ap (λ (g : Managed). g.anchors) managed) (sym (managed_own s manages) ∙ ap (λ (g : Managed). g.own) managed)
-    (ap raised_in me ∙ ap (λ (x : Role). x.raised) role) in
+    (ap raised_in me ∙ ap (λ (x : Role). x.raised) role) (ap (λ (g : Managed). g.stored) managed) in
     record {
       own = split.table ∙ d.own;
       opened = ap (λ (v : Knows). v.opened) me ∙ d.opened;

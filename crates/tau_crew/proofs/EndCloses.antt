@@ -7,28 +7,30 @@ use Rattle.std.proofs.lemmas.List.{length-map}
 use Rattle.std.proofs.lemmas.Option.{slice_get-map}
 use Rattle.tau_base.specs.Modes.{format_of}
 use Rattle.tau_outbox.specs.declared.Piece.{Piece}
+use Rattle.tau_occ.specs.declared.style.Style.{Style}
 use Rattle.tau_run.specs.Run.{pair_of}
 use Rattle.tau_crew_facts.specs.Ends.{IsThreadEnd}
 use Rattle.tau_crew_facts.specs.Telling.{IsTelling}
-use Rattle.tau_crew_facts.proofs.Closing.{thread_end}
+use Rattle.tau_crew_facts.proofs.Closing.{lasts, thread_end}
 use Rattle.tau_desk.specs.Manages.{acked_in, managed_in}
 use Rattle.tau_crew.specs.Clerking.{all_told}
 use Rattle.atomic_table.specs.Seated.{TableId}
 use Rattle.tau_disk.specs.declared.disk.Disk.{Ghosts}
 use Rattle.tau_stream.specs.declared.writer.Writer.{Writer}
+use Rattle.tau_stream.specs.Writer.{disk_of}
 use Rattle.tau_machine.specs.State.{Ticket}
 use Rattle.tau_txn.specs.Txn.{has_joined, held_in}
 use Rattle.tau_core.specs.State.{Plain}
 use Rattle.tau_rule.specs.Heads.{role_or}
-use Rattle.tau_rule.specs.Role.{Clerking, Managing, Managed, Role, Working}
+use Rattle.tau_rule.specs.Role.{Clerking, Managing, Managed, Role, Working, managed_in_share}
 use Rattle.tau_rule.specs.Rule.{clerk_role, has, manager_role}
 use Rattle.tau_rule.specs.Steps.{first_role, worker_in_share}
 use Rattle.tau_desk.specs.Ends as desk
-use Rattle.tau_desk.specs.Manages.{acked_in_share, managed_in_share}
+use Rattle.tau_desk.specs.Manages.{acked_in_share}
 use Rattle.tau_desk.specs.Seats.{HasStock, HasWork, Heads, PlainHead}
 use Rattle.tau_desk.specs.Shares.{PlainStock, PlainWork}
 use Rattle.tau_crew_facts.specs.Closing.{IsClosing, ManagerKnows}
-use Rattle.tau_crew_facts.specs.Writers.{HasWritten}
+use Rattle.tau_crew_facts.specs.Writers.{AllBecameDurable, HasWritten}
 use Rattle.tau_crew.specs.declared.clerk.ClerkJob.{ClerkJob}
 use Rattle.tau_crew.specs.declared.manager.ManagerJob.{ManagerJob}
 use Rattle.tau_crew.specs.Gathering.{taken_in}
@@ -73,7 +75,7 @@ module _ {D : Type 0} {G : Ghosts D} (first : Plain) (table : TableId) (bases : 
       let same : back.work ≡ o = (let e : Some (Some back.work) ≡ Some (Some o) = sym back.there ∙ is in cc e) in
       (ap (λ (x : PlainWork). held_in x.txn) (sym same) ∙ back.held, ap (λ (x : PlainWork). has_joined x.txn) (sym same) ∙ back.unjoined)
 
-  pub closing : (result : Plain) (k : desk.IsClosing first h.me.0 result) → IsClosing first h.me.0 (worker_back h) (managed_back first h) (acked_back first h) k.state
+  pub closing : {style : Style} (result : Plain) (k : desk.IsClosing first style h.me.0 result) → IsClosing first style h.me.0 (worker_back h) (managed_back first h) (acked_back first h) k.state
   closing result k = record {
     meets = k.meets;
     sees = k.sees;
@@ -126,6 +128,7 @@ module _ {D : Type 0} {G : Ghosts D} (first : Plain) (table : TableId) (bases : 
             written =
                 subst (λ (ps : List Piece). HasWritten (format_of first.load.mode) first.load.streams j (bases j) ps (slice_index h.me.0.seen j) w job.writer) (sym (ap (λ (m : Managed). m.taken) (managed_is j job at)))
                 (subst (λ (k : ℕ). HasWritten (format_of first.load.mode) first.load.streams j (bases j) (taken_in job.seat) k w job.writer) seen back.manager.wrote.written);
+            lasts = λ t. subst (λ (us : List ℕ). AllBecameDurable G (format_of first.load.mode) first.load.streams j (disk_of job.writer) us) (sym (ap (λ (m : Managed). m.stored) (managed_is j job at))) (back.manager.wrote.lasts t);
           },
         ));
   }
@@ -137,7 +140,8 @@ module _ {D : Type 0} {G : Ghosts D} (first : Plain) (table : TableId) (bases : 
     licensed = λ a m j. (let x = b.clerk.tells.licensed a m j in let y = b.clerk_seen j in let z = ap (λ (v : List ℕ). slice_index v j) d.seen_is in omega (arith, x, y, z));
   }
 
-  pub ends_thread : (result : Plain) (k : desk.IsClosing first h.me.0 result) → IsThreadEnd bases first k.state.core ws (map writer_in jobs) (all_told telling.told)
+  pub ends_thread : {style : Style} (result : Plain) (k : desk.IsClosing first style h.me.0 result) → IsThreadEnd bases first style k.state.core ws (map writer_in jobs) (all_told telling.told)
+  unfolding closing
   ends_thread result k =
       let t = thread_end first h.me.0 (worker_back h) (managed_back first h) (acked_back first h) k.state (closing result k) bases ws (map writer_in jobs) (all_told telling.told) b.managers.writers (λ w lt. (b.head.workers w lt).loose) knows telling_back in
       record {
@@ -153,10 +157,11 @@ module _ {D : Type 0} {G : Ghosts D} (first : Plain) (table : TableId) (bases : 
         };
         count = t.count;
         managers = t.managers;
+        lasts = lasts first h.me.0 (worker_back h) (managed_back first h) (acked_back first h) k.state (closing result k) bases ws (map writer_in jobs) (all_told telling.told) b.managers.writers (λ w lt. (b.head.workers w lt).loose) knows telling_back;
         clerk = t.clerk;
       }
 
-  pub closes_run : (result : Plain) → desk.IsClosing first h.me.0 result → ClosesRun first bases ws (map writer_in jobs) telling result
+  pub closes_run : {style : Style} (result : Plain) → desk.IsClosing first style h.me.0 result → ClosesRun first style bases ws (map writer_in jobs) telling result
   unfolding ends_thread
   closes_run result k = record {
     state = k.state.core;
@@ -167,6 +172,6 @@ module _ {D : Type 0} {G : Ghosts D} (first : Plain) (table : TableId) (bases : 
     core = k.core;
   }
 
-  pub closes_state : (result : Plain) (k : desk.IsClosing first h.me.0 result) → (closes_run result k).state ≡ k.state.core
+  pub closes_state : {style : Style} (result : Plain) (k : desk.IsClosing first style h.me.0 result) → (closes_run result k).state ≡ k.state.core
   unfolding closes_run
   closes_state result k = refl

@@ -12,12 +12,13 @@ use Rattle.tau_model.specs.History.{Member}
 use Rattle.tau_machine.specs.State.{Core, Ticket}
 use Rattle.tau_machine.specs.Worker.{Worker}
 use Rattle.tau_core.specs.State.{Plain}
+use Rattle.tau_occ.specs.declared.style.Style.{Style}
 use Rattle.tau_rule.specs.Heads.{role_or}
-use Rattle.tau_rule.specs.Role.{Managed, Role}
+use Rattle.tau_rule.specs.Role.{Managed, Role, managed_in_share}
 use Rattle.tau_rule.specs.Rule.{manager_role}
 use Rattle.tau_rule.specs.Steps.{worker_in_share}
 use Rattle.tau_desk.specs.Ends as desk
-use Rattle.tau_desk.specs.Manages.{acked_in, managed_in_share}
+use Rattle.tau_desk.specs.Manages.{acked_in}
 use Rattle.tau_desk.specs.Resumes.{CanGoOn}
 use Rattle.tau_desk.specs.Shares.{PlainWork}
 use Rattle.tau_desk.specs.Seats.{HasStock, Heads, PlainHead}
@@ -103,7 +104,7 @@ module _ {D : Type 0} {G : Ghosts D} (first : Plain) (table : TableId) (bases : 
       subst (λ (vs : List (List ℕ)). IsSpacing before (length (bases j)) (slice_index h.me.0.seen j) (own_of j vs)) (sym anchors)
       (subst (λ (n : ℕ). IsSpacing before (length (bases j)) n (own_of j job.seat.stock.anchors)) (sym (seen_at j job at)) spacing)
 
-  pub closes_done : (result : Plain) → desk.IsClosing first h.me.0 result → ClosesDone first bases ws (map writer_in jobs) h jobs telling result
+  pub closes_done : {style : Style} (result : Plain) → desk.IsClosing first style h.me.0 result → ClosesDone first style bases ws (map writer_in jobs) h jobs telling result
   closes_done result k = record {
     run = closes_run first table bases ws h jobs telling b d result k;
     done = λ q. subst (λ (s : Core). IsThreadDone first.load s (map writer_in jobs)) (sym (closes_state first table bases ws h jobs telling b d result k))

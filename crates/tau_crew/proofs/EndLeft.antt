@@ -90,7 +90,7 @@ module _ (first : Plain) (table : TableId) (h : PlainHead) (b : IsHeadBack first
       let r = p.meets.reached in
       let inv : Invariant (setting_of first.load) r.joined p.state.core = run_theorem (setting_of first.load) (core_of first nothing) r.events r.joined p.state.core r.run in
       let (role, is, share) = role_at w lt in
-      let now : p.state.core.workers w ≡ worker_back h w = (subst (λ (x : Share). IsShare first.load w x p.state.core) share (p.roles w role is).0).1 in
+      let now : p.state.core.workers w ≡ worker_back h w = (subst (λ (x : Share). IsShare first.load w x p.state) share (p.roles w role is).0).1 in
       subst (λ (n : ℕ). EndsBy n call.spot) p.end
       (placed_within first.load r.joined p.state.core inv w j at call (subst (λ (x : Worker). Member call x.committed) (sym now) m))
 

@@ -9,6 +9,7 @@ use Rattle.tau_stream.specs.declared.writer.Writer.{Writer}
 use Rattle.tau_machine.specs.Worker.{Worker}
 use Rattle.tau_core.specs.State.{Plain}
 use Rattle.tau_core.specs.View.{all_numbered}
+use Rattle.tau_occ.specs.declared.style.Style.{Style}
 use Rattle.tau_rule.specs.Heads.{role_or}
 use Rattle.tau_rule.specs.Role.{Role}
 use Rattle.tau_rule.specs.Rule.{clerk_role, has, is_raised, manager_role}
@@ -35,7 +36,7 @@ raised_by (suc n) f e none =
     let last : f n ≡ false = none n (omega arith) in
     raised_by n f (sym (ap (λ (b : Bool). if b then true else is_raised n f) last) ∙ e) (λ u lt. none u (omega (arith, lt)))
 
-module _ {D : Type 0} {G : Ghosts D} (first : Plain) (table : TableId) (bases : ℕ → List ℕ) (ws : List (Writer D G)) (h : PlainHead) (jobs : List (ManagerJob D G)) (telling : ClerkJob) (b : IsAllBack first table bases ws h jobs telling) (d : Heads h) (result : Plain) (k : desk.IsClosing first h.me.0 result)
+module _ {D : Type 0} {G : Ghosts D} (first : Plain) (table : TableId) (bases : ℕ → List ℕ) (ws : List (Writer D G)) (h : PlainHead) (jobs : List (ManagerJob D G)) (telling : ClerkJob) (b : IsAllBack first table bases ws h jobs telling) (d : Heads h) {style : Style} (result : Plain) (k : desk.IsClosing first style h.me.0 result)
     (memory : NoneShort jobs) (ran : (w : ℕ) → w < first.load.workers → HasRunBack first.load h w) (raised : raised_in telling.seat.me.0 ≡ false) (works : NoneFailed (map writer_in jobs)) where
   raised_at : (u : ℕ) (r : Role) → has u h.me.0 ≡ Some r → r.raised ≡ false → k.state.raised u ≡ false
   raised_at u r is low = (k.roles u r is).1 ∙ low

@@ -22,10 +22,11 @@ use Rattle.tau_core.specs.State.{Plain}
 use Rattle.tau_core.specs.Stands.{Stands}
 use Rattle.tau_core.specs.View.{Hidden, call_of, core_of, setting_of, worker_of}
 use Rattle.tau_core.proofs.Promises.{acknowledged_law, committed_law}
+use Rattle.tau_occ.specs.declared.style.Style.{Style}
 use Rattle.tau_run.specs.Run.{pair_of}
 use Rattle.tau_desk.specs.Seats.{PlainHead}
 use Rattle.tau_run.specs.Gives.{Concluded, Gave}
-use Rattle.tau_crew_facts.specs.Threads.{IsLowestFailed, in_threads}
+use Rattle.tau_crew_facts.specs.Threads.{IsLowestFailed, lasting}
 use Rattle.tau_crew_facts.proofs.Came.{apart_whole, came, lowest, over}
 use Rattle.tau_crew.specs.declared.clerk.ClerkJob.{ClerkJob}
 use Rattle.tau_crew.specs.declared.manager.ManagerJob.{ManagerJob}
@@ -67,7 +68,7 @@ module _ (p : Plain) (K : List (Act Txn)) (h : Hidden) (g : Stands p K h) (told 
   told_all : All (λ (a : ℕ × List ℕ). IsNumberOf (length p.load.calls) a.0) told
   told_all k d lt = told_one (slice_index_or told k d) (at_member told k d lt)
 
-module _ {D : Type 0} {G : Ghosts D} (first : Plain) (bases : ℕ → List ℕ) (ws ws' : List (Writer D G)) (telling : ClerkJob) (core : Plain) (c : ClosesRun first bases ws ws' telling core) (none : telling.told.missing ≡ None) where
+module _ {D : Type 0} {G : Ghosts D} (first : Plain) {style : Style} (bases : ℕ → List ℕ) (ws ws' : List (Writer D G)) (telling : ClerkJob) (core : Plain) (c : ClosesRun first style bases ws ws' telling core) (none : telling.told.missing ≡ None) where
   told_is : all_told telling.told ≡ telling.told.acks
   told_is = ap (with_missing telling.told.acks) none
 
@@ -82,11 +83,11 @@ module _ {D : Type 0} {G : Ghosts D} (first : Plain) (bases : ℕ → List ℕ) 
       (λ w lt. subst (λ (acks : List (ℕ × List ℕ)). filter (λ (a : ℕ × List ℕ). worker_of first.load.workers a.0 == w) acks ≡ map pair_of (c.hidden.acked w)) told_is (c.came.clerk.told w lt ∙ ap (map pair_of) (sym (acked_same w))))))
 
 -- to its end
-pub ends_well : {D : Type 0} {G : Ghosts D} (first : Plain) (bases : ℕ → List ℕ) (ws ws' : List (Writer D G)) (h : PlainHead) (jobs : List (ManagerJob D G)) (telling : ClerkJob) (core : Plain) (hears : Type 0) (held held' : List ℕ) (sink_rose : Type 0) (long : (j : ℕ) → j < first.load.streams → length (bases j) ≡ slice_index first.load.opening.ends j) (c : ClosesDone first bases ws ws' h jobs telling core) →
+pub ends_well : {D : Type 0} {G : Ghosts D} (first : Plain) {style : Style} (bases : ℕ → List ℕ) (ws ws' : List (Writer D G)) (h : PlainHead) (jobs : List (ManagerJob D G)) (telling : ClerkJob) (core : Plain) (hears : Type 0) (held held' : List ℕ) (sink_rose : Type 0) (long : (j : ℕ) → j < first.load.streams → length (bases j) ≡ slice_index first.load.opening.ends j) (c : ClosesDone first style bases ws ws' h jobs telling core) →
     IsDone first h jobs telling → telling.told.missing ≡ None → telling.told.lines.items ≡ [] → (hears → IsToldSoFar held telling.told held') → (telling.told.sink_failed ≡ true → sink_rose) → (end : RunEnd) → end.report.acks ≡ telling.told.acks →
     ((K : List (Act Txn)) (q : Hidden) → Stands core K q → end.report.fates ≡ fates_by (length core.load.calls) K telling.told.acks) →
     ((K : List (Act Txn)) (q : Hidden) → Stands core K q → end.report.order ≡ map (λ (t : Act Txn). t.call.call.number) (reported core.ends K)) →
-    ((K : List (Act Txn)) (q : Hidden) → Stands core K q → IsTablesOf (sight (setting_of core.load) (core_of core q)).row end.report.tables) → IsLowestFailed ws' end.disk → end.sink_failed ≡ telling.told.sink_failed → Concluded in_threads bases first.load ws ws' hears held held' sink_rose end
+    ((K : List (Act Txn)) (q : Hidden) → Stands core K q → IsTablesOf (sight (setting_of core.load) (core_of core q)).row end.report.tables) → IsLowestFailed ws' end.disk → end.sink_failed ≡ telling.told.sink_failed → Concluded (lasting style ws') bases first.load ws ws' hears held held' sink_rose end
 ends_well first bases ws ws' h jobs telling core hears held held' sink_rose long c q none written heard sink end acks fates order tables disk failed =
     let all : all_told telling.told ≡ telling.told.acks = ap (with_missing telling.told.acks) none in
     let K = c.run.came.closed.joined in
@@ -110,12 +111,12 @@ ends_well first bases ws ws' h jobs telling core hears held held' sink_rose long
     }
 
 -- Or, to tell it, memory ran out. The clerk's job gave back what it has told.
-pub ends_ran : {D : Type 0} {G : Ghosts D} (first : Plain) (bases : ℕ → List ℕ) (ws ws' : List (Writer D G)) (h : PlainHead) (jobs : List (ManagerJob D G)) (telling : ClerkJob) (core : Plain) (hears : Type 0) (held held' : List ℕ) (sink_rose : Type 0) (long : (j : ℕ) → j < first.load.streams → length (bases j) ≡ slice_index first.load.opening.ends j) (c : ClosesDone first bases ws ws' h jobs telling core) →
+pub ends_ran : {D : Type 0} {G : Ghosts D} (first : Plain) {style : Style} (bases : ℕ → List ℕ) (ws ws' : List (Writer D G)) (h : PlainHead) (jobs : List (ManagerJob D G)) (telling : ClerkJob) (core : Plain) (hears : Type 0) (held held' : List ℕ) (sink_rose : Type 0) (long : (j : ℕ) → j < first.load.streams → length (bases j) ≡ slice_index first.load.opening.ends j) (c : ClosesDone first style bases ws ws' h jobs telling core) →
     IsDone first h jobs telling → telling.told.missing ≡ None → telling.told.lines.items ≡ [] → (hears → IsToldSoFar held telling.told held') → (telling.told.sink_failed ≡ true → sink_rose) → (t : Told) → t ≡ telling.told → (failed : Option ℕ) → IsLowestFailed ws' failed →
     (result : Result RunEnd NoMemory) → IfOk result (λ end. end.report.acks ≡ t.acks) → IfOk result (λ end. (K : List (Act Txn)) (q : Hidden) → Stands core K q → end.report.fates ≡ fates_by (length core.load.calls) K t.acks) →
     IfOk result (λ end. (K : List (Act Txn)) (q : Hidden) → Stands core K q → end.report.order ≡ map (λ (a : Act Txn). a.call.call.number) (reported core.ends K)) →
     IfOk result (λ end. (K : List (Act Txn)) (q : Hidden) → Stands core K q → IsTablesOf (sight (setting_of core.load) (core_of core q)).row end.report.tables) → IfOk result (λ end. end.disk ≡ failed) → IfOk result (λ end. end.sink_failed ≡ t.sink_failed) →
-    Gave in_threads bases first.load ws ws' hears held held' sink_rose result
+    Gave (lasting style ws') bases first.load ws ws' hears held held' sink_rose result
 ends_ran first bases ws ws' h jobs telling core hears held held' sink_rose long c q none written heard sink t same failed low (Ok end) acks fates order tables disk sank =
     ends_well first bases ws ws' h jobs telling core hears held held' sink_rose long c q none written heard sink end (acks ∙ ap (λ (x : Told). x.acks) same) (λ K y g. fates K y g ∙ ap (λ (x : Told). fates_by (length core.load.calls) K x.acks) same) order tables
     (subst (λ (f : Option ℕ). IsLowestFailed ws' f) (sym disk) low) (sank ∙ ap (λ (x : Told). x.sink_failed) same)

@@ -6,10 +6,11 @@ use Rattle.std.proofs.Math.Seq.{take-append_seam}
 use Rattle.tau_disk.specs.declared.disk.Disk.{Ghosts}
 use Rattle.tau_stream.specs.declared.writer.Writer.{Writer}
 use Rattle.tau_core.specs.State.{Plain}
+use Rattle.tau_occ.specs.declared.style.Style.{Style}
 use Rattle.tau_run.specs.Gives.{CutOff}
 use Rattle.tau_run.specs.Heard.{Heard}
 use Rattle.tau_report.specs.Report.{ack_lines}
-use Rattle.tau_crew_facts.specs.Threads.{in_threads}
+use Rattle.tau_crew_facts.specs.Threads.{lasting}
 use Rattle.tau_crew_facts.proofs.Came.{came}
 use Rattle.tau_crew.specs.declared.clerk.ClerkJob.{ClerkJob}
 use Rattle.tau_crew.specs.declared.told.Told.{Told}
@@ -34,8 +35,8 @@ short_heard base t held none so =
     (all_heard base t.acks t.sink_failed held (subst (λ (ls : List ℕ). IsSoFar base t.acks ls t.sink_failed held) none so))
 
 -- out of memory
-pub ends_short : {D : Type 0} {G : Ghosts D} (first : Plain) (bases : ℕ → List ℕ) (ws ws' : List (Writer D G)) (telling : ClerkJob) (result : Plain) (hears : Type 0) (held held' : List ℕ) (sink_rose : Type 0) → ((j : ℕ) → j < first.load.streams → length (bases j) ≡ slice_index first.load.opening.ends j) → ClosesRun first bases ws ws' telling result → telling.told.lines.items ≡ [] →
-    (hears → IsToldSoFar held telling.told held') → (telling.told.sink_failed ≡ true → sink_rose) → CutOff in_threads bases first.load ws ws' hears held held' sink_rose
+pub ends_short : {D : Type 0} {G : Ghosts D} (first : Plain) {style : Style} (bases : ℕ → List ℕ) (ws ws' : List (Writer D G)) (telling : ClerkJob) (result : Plain) (hears : Type 0) (held held' : List ℕ) (sink_rose : Type 0) → ((j : ℕ) → j < first.load.streams → length (bases j) ≡ slice_index first.load.opening.ends j) → ClosesRun first style bases ws ws' telling result → telling.told.lines.items ≡ [] →
+    (hears → IsToldSoFar held telling.told held') → (telling.told.sink_failed ≡ true → sink_rose) → CutOff (lasting style ws') bases first.load ws ws' hears held held' sink_rose
 ends_short first bases ws ws' telling result hears held held' sink_rose long c none heard sink = record {
   acks = all_told telling.told;
   came = came bases first long c.state ws ws' (all_told telling.told) c.came;

@@ -13,15 +13,15 @@ use Rattle.tau_core.specs.State.{Plain}
 use Rattle.tau_core.specs.declared.state.Load.{Load}
 use Rattle.tau_run.proofs.Bodies.{five}
 use Rattle.tau_rule.specs.Boxes.{BoxOf, box_in}
-use Rattle.tau_rule.specs.Role.{Role, Share}
+use Rattle.tau_rule.specs.Role.{Role, Share, managed_in_share}
 use Rattle.tau_rule.specs.Rule.{IsPart, Now, anchors_at, outbox_part}
 use Rattle.tau_rule.specs.declared.part.Part.{Part}
 use Rattle.tau_rule.specs.declared.part.Part.TheVariants as part
-use Rattle.tau_desk.specs.Manages.{GathersBox, GathersOwn, OnlyRoom, gone, managed_in, managed_in_share}
+use Rattle.tau_desk.specs.Manages.{GathersBox, GathersOwn, OnlyRoom, gone, managed_in}
 use Rattle.tau_desk.specs.Seats.{Manages, PlainManagerSeat}
 use Rattle.tau_rule.specs.Steps.{first_role}
 use Rattle.tau_crew_facts.proofs.ManagerWriter.{bytes_append}
-use Rattle.tau_crew.specs.Gathering.{AreLong, GathersMore, raised_in, taken_in}
+use Rattle.tau_crew.specs.Gathering.{AreLong, GathersMore, raised_in, stored_in, taken_in}
 use Rattle.tau_desk.proofs.Taking.{gone_is}
 
 pub long_append : (xs ys : List Piece) → AreLong xs → AreLong ys → AreLong (xs ++ ys)
@@ -72,6 +72,7 @@ gathers_none s body = record {
   seen = refl;
   opened = refl;
   raised = refl;
+  stored = refl;
   anchors = refl;
 }
 
@@ -90,6 +91,7 @@ gathers_on s1 s2 s3 b1 b2 b3 p q = record {
   seen = q.seen ∙ p.seen;
   opened = q.opened ∙ p.opened;
   raised = q.raised ∙ p.raised;
+  stored = q.stored ∙ p.stored;
   anchors = q.anchors ∙ p.anchors;
 }
 
@@ -114,6 +116,7 @@ gathers_box origin s s' w body longer g = record {
   seen = ap (λ (x : PlainManagerSeat). x.seen) g.after;
   opened = ap (λ (x : PlainManagerSeat). x.me.0.opened) g.after;
   raised = ap (λ (x : PlainManagerSeat). raised_in x.me.0) g.after;
+  stored = ap stored_in g.after;
   anchors = ap (λ (x : PlainManagerSeat). x.stock.anchors) g.after;
 }
 
@@ -145,6 +148,7 @@ gathers_own s s' body longer m g =
       seen = ap (λ (x : PlainManagerSeat). x.seen) g.after;
       opened = ap (λ (x : PlainManagerSeat). x.me.0.opened) g.after;
       raised = ap (λ (x : PlainManagerSeat). raised_in x.me.0) g.after;
+      stored = ap stored_in g.after;
       anchors = ap (λ (x : PlainManagerSeat). x.stock.anchors) g.after;
     }
 
@@ -164,6 +168,7 @@ gathers_room s s' body longer o after same = record {
   seen = ap (λ (x : PlainManagerSeat). x.seen) after;
   opened = ap (λ (x : PlainManagerSeat). x.me.0.opened) after;
   raised = ap (λ (x : PlainManagerSeat). raised_in x.me.0) after;
+  stored = ap stored_in after;
   anchors = o.anchors;
 }
 

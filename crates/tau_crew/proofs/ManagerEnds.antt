@@ -18,20 +18,20 @@ use Rattle.tau_desk.specs.Manages.{managed_in}
 use Rattle.tau_desk.specs.Seats.{Manages, PlainManagerSeat}
 use Rattle.tau_crew_facts.specs.Closing.{EndsBy, ManagerDone, ManagerKnows}
 use Rattle.tau_crew_facts.specs.Spacing.{IsSpacing, newest}
-use Rattle.tau_crew_facts.specs.Writers.{CountsNow, HasWritten, IsManaging, OnlyNow, SeenNow}
+use Rattle.tau_crew_facts.specs.Writers.{AllBecameDurable, CountsNow, HasWritten, IsDurableSince, IsManaging, OnlyNow, SeenNow}
 use Rattle.tau_crew_facts.proofs.ManagerWriter.{begins, entry_moves, stored_kept}
 use Rattle.tau_crew_facts.proofs.Spacing.{spacing_begins}
-use Rattle.tau_crew.specs.Gathering.{AreLong, raised_in, taken_in}
+use Rattle.tau_crew.specs.Gathering.{AreLong, raised_in, stored_in, taken_in}
 use Rattle.tau_crew.specs.declared.manager.ManagerJob.{ManagerJob}
 use Rattle.tau_crew.specs.Driving.{IsDriven, IsManagerAt, before_of, own_of}
-use Rattle.tau_crew.specs.Jobs.{IsDurableSince, IsManagerJob, KeepsManager}
+use Rattle.tau_crew.specs.Jobs.{IsManagerJob, KeepsManager}
 use Rattle.tau_crew.proofs.Driving.{left_long, short_of}
 use Rattle.tau_crew.proofs.Gathering.{managed_gathered, managed_own}
 
 -- a manager that has done nothing, with a writer that was just opened
 pub manager_begins : {D : Type 0} {G : Ghosts D} → SeenNow G → (format : Format) (n j : ℕ) (base : List ℕ) (s : PlainManagerSeat) (w : Writer D G) → IsNew format n j base w → s.stream ≡ j → taken_in s ≡ [] → slice_index s.seen j ≡ length base → s.stock.gathered ≡ length base → s.stock.anchors ≡ [] → s.stock.own.pieces ≡ [] →
-    raised_in s.me.0 ≡ false → IsManagerAt format n j base w s w (length base) 0 false
-manager_begins seen_now format n j base s w new stream taken seen gathered anchors own raised =
+    raised_in s.me.0 ≡ false → stored_in s ≡ [] → IsManagerAt format n j base w s w (length base) 0 false
+manager_begins {D} {G} seen_now format n j base s w new stream taken seen gathered anchors own raised none_stored =
     let driven : IsDriven format n j base w s w = record {
       stream = stream;
       managing = subst (λ (ps : List Piece). IsManaging format n j base ps w w) (sym taken) (begins format n j base seen_now w (record { works = new.works; durable = new.durable; none = new.left; ready = new.ready }));
@@ -39,6 +39,7 @@ manager_begins seen_now format n j base s w new stream taken seen gathered ancho
       counted = (let e = ap (λ (ps : List Piece). length (bytes_of ps)) taken in omega (arith, gathered, e));
       long = subst AreLong (sym own) tt;
       raised = raised ∙ sym new.works;
+      lasts = λ t. subst (λ (us : List ℕ). AllBecameDurable G format n j (disk_of w) us) (sym none_stored) (λ u m. absurd m);
     } in
     let none : own_of s.stream s.stock.anchors ≡ [] = ap (own_of s.stream) anchors in
     record {
@@ -65,6 +66,7 @@ enters_again {D} {G} format n j base w0 job m enough works =
       counted = d.counted;
       long = d.long;
       raised = d.raised;
+      lasts = d.lasts;
     } in
     record { wrote = short_of format n j base w s w again; driven = λ e. again; flushed = m.flushed; apart = m.apart }
 
@@ -90,7 +92,7 @@ stays_stored {D} {G} counts_now only_now format n j base w0 job job' m enough wo
 module _ {D : Type 0} {G : Ghosts D} (l : Load) (v : List ℕ) (j : ℕ) (base : List ℕ) (s : PlainManagerSeat) (w0 w : Writer D G) (last placed : ℕ) (short : Bool) (m : IsManagerAt (format_of l.mode) l.streams j base w0 s w last placed short) (manages : Manages s) (now : slice_index v j ≡ slice_index s.seen j) where
   -- at whatever end
   pub manager_knows : (G.tells → IsReady (format_of l.mode) l.streams j w0 base) → ManagerKnows l v j base (managed_in s.me.0) w0 w
-  manager_knows ready = record { ready = ready; written = subst (λ (d : ℕ). HasWritten (format_of l.mode) l.streams j base (taken_in s) d w0 w) (sym now) m.wrote.written }
+  manager_knows ready = record { ready = ready; written = subst (λ (d : ℕ). HasWritten (format_of l.mode) l.streams j base (taken_in s) d w0 w) (sym now) m.wrote.written; lasts = m.wrote.lasts }
 
   -- where memory was there
   module _ (enough : short ≡ false) where

@@ -1,21 +1,19 @@
 -- From the run itself to what the calls tell of it.
-use Rattle.std.proofs.Common.{ℕ, zero, suc, ◌<◌, ◌≤◌, ◌≡◌, inl, inr, arith, List, [], ◌∷◌, ◌++◌, drop, take, length, refl, sym, ap, subst, ◌∙◌}
-use Rattle.std.specs.Prelude.{Result, Ok, Err, slice_index, slice_index_or}
+use Rattle.std.proofs.Common.{ℕ, zero, suc, ◌<◌, ◌≤◌, ◌≡◌, arith, List, [], ◌∷◌, ◌++◌, drop, take, length, refl, sym, ap, subst, ◌∙◌}
+use Rattle.std.specs.Prelude.{Result, slice_index_or}
 use Rattle.std.proofs.lemmas.List.{append-nil}
-use Rattle.tau_base.specs.declared.format.Format.{Format}
 use Rattle.tau_base.specs.Modes.{format_of}
 use Rattle.tau_base.specs.declared.value.LogMode.{LogMode}
 use Rattle.tau_base.specs.declared.value.NoMemory.{NoMemory}
 use Rattle.tau_disk.specs.declared.disk.Disk.{Ghosts}
 use Rattle.tau_stream.specs.declared.writer.Writer.{Writer}
-use Rattle.tau_text.specs.Canonical.{declarations_text}
 use Rattle.tau_text.specs.declared.load.Workload.{Workload}
 use Rattle.tau_report.specs.declared.report.RunEnd.{RunEnd}
 use Rattle.tau_core.specs.declared.opening.Opening.{Opening}
-use Rattle.tau_core.specs.declared.state.Load.{Load}
 use Rattle.tau_core.specs.State.{Plain}
-use Rattle.tau_core.specs.Opens.{Opened, OpenedFresh, catalogue_size, load_of}
+use Rattle.tau_core.specs.Opens.{Opened, load_of}
 use Rattle.tau_run.specs.Start.{catalogue_of}
+use Rattle.tau_occ.specs.declared.style.Style.{Style}
 use Rattle.tau_rule.specs.Steps.{Sat}
 use Rattle.tau_rule.proofs.Gives.{one_origin}
 use Rattle.tau_desk.specs.declared.desk.Desk.{Desk}
@@ -29,7 +27,9 @@ use Rattle.tau_crew.specs.WorkersBack.{IsAtStart, IsHeadReady}
 use Rattle.tau_crew.proofs.WorkReturn.{all_ready, at_start, ready_stays, start_stays}
 use Rattle.tau_crew.proofs.WorkStays.{workers_stay_clerk, workers_then}
 use Rattle.tau_base.proofs.Lists.{some_at, got_or}
-use Rattle.tau_run.specs.Writers.{AreNew, IsBegun}
+use Rattle.tau_run.specs.Gives.{GaveFrom, GaveNew}
+use Rattle.tau_run.proofs.Came.{gave_by}
+use Rattle.tau_crew_facts.specs.Threads.{in_threads, lasting}
 
 -- ---- the beginning
 
@@ -84,3 +84,12 @@ all_start desk h h1 h2 clerk opened first unbegun keeps split w low =
     let key : Plain = desk.table.shared.key.value in
     let stays = workers_then key.load h h1 h2 keeps (workers_stay_clerk key.load h1 h2 clerk split) in
     start_stays key.load h h2 w (stays.roles w low) stays.works (at_start key h opened first.knows unbegun w low)
+
+-- ---- the same run, but for how long what was stored lasts
+
+module _ {D : Type 0} {G : Ghosts D} (style : Style) (m : ℕ) (mode : LogMode) (load : Workload) (ws ws' : List (Writer D G)) (hears : Type 0) (held held' : List ℕ) (sink_rose : Type 0) (r : Result RunEnd NoMemory) where
+  pub threads_plain : GaveNew (lasting style ws') m mode load ws ws' hears held held' sink_rose r → GaveNew (in_threads style) m mode load ws ws' hears held held' sink_rose r
+  threads_plain gave = (gave.0, gave.1, gave_by (lasting style ws') (in_threads style) (λ j. catalogue_of load) gave.0 ws ws' (λ whole opening p q. q.0) hears held held' sink_rose r gave.2)
+
+  pub plain_from : (o : Opening) (bases : ℕ → List ℕ) → GaveFrom (lasting style ws') o bases m mode load ws ws' hears held held' sink_rose r → GaveFrom (in_threads style) o bases m mode load ws ws' hears held held' sink_rose r
+  plain_from o bases gave = gave_by (lasting style ws') (in_threads style) bases (load_of load.declarations.procs load.calls mode m o) ws ws' (λ whole opening p q. q.0) hears held held' sink_rose r gave

@@ -4,13 +4,13 @@ use Rattle.tau_base.specs.declared.format.Format.{Format}
 use Rattle.tau_base.specs.declared.limits.TheConstants.{MAX_BODY}
 use Rattle.tau_disk.specs.declared.disk.Disk.{Ghosts}
 use Rattle.tau_stream.specs.declared.writer.Writer.{Writer}
-use Rattle.tau_stream.specs.Writer.{durable_of, has_failed, left_of}
+use Rattle.tau_stream.specs.Writer.{disk_of, durable_of, has_failed, left_of}
 use Rattle.tau_outbox.specs.Pieces.{bytes_of}
 use Rattle.tau_core.specs.State.{Plain}
 use Rattle.tau_desk.specs.Seats.{PlainManagerSeat}
 use Rattle.tau_crew_facts.specs.Spacing.{IsSpacing, newest}
-use Rattle.tau_crew_facts.specs.Writers.{HasWritten, IsManaging}
-use Rattle.tau_crew.specs.Gathering.{AreLong, raised_in, taken_in}
+use Rattle.tau_crew_facts.specs.Writers.{AllBecameDurable, HasWritten, IsManaging}
+use Rattle.tau_crew.specs.Gathering.{AreLong, raised_in, stored_in, taken_in}
 
 -- the own components of the anchors that the manager of a stream has placed
 abbrev pub own_of : ℕ → List (List ℕ) → List ℕ
@@ -35,6 +35,8 @@ module _ {D : Type 0} {G : Ghosts D} where
     pub counted : s.stock.gathered ≡ length base + length (bytes_of (taken_in s))
     pub long : AreLong s.stock.own.pieces
     pub raised : raised_in s.me.0 ≡ has_failed w
+    -- each position that was stored was durable by then, and is since
+    pub lasts : G.tells → AllBecameDurable G format n j (disk_of w) (stored_in s)
 
   -- all that was gathered is durable, unless the disk failed
   abbrev pub IsFlushed : Writer D G → Type 0
@@ -45,6 +47,7 @@ module _ {D : Type 0} {G : Ghosts D} where
     pub stream : s.stream ≡ j
     pub stored : slice_index s.seen j ≡ durable_of w
     pub written : HasWritten format n j base (taken_in s) (slice_index s.seen j) w0 w
+    pub lasts : G.tells → AllBecameDurable G format n j (disk_of w) (stored_in s)
 
   -- whatever the stream began with and the writer was at the entry, a step keeps it
   abbrev pub KeepsDriven : PlainManagerSeat → PlainManagerSeat → Writer D G → Writer D G → Type 0
@@ -73,6 +76,7 @@ pub record KeepsSeat (s s' : PlainManagerSeat) : Type 0 where
   pub taken : taken_in s' ≡ taken_in s
   pub gathered : s'.stock.gathered ≡ s.stock.gathered
   pub stored : slice_index s'.seen s.stream ≡ slice_index s.seen s.stream
+  pub all_stored : stored_in s' ≡ stored_in s
   pub long : AreLong s.stock.own.pieces → AreLong s'.stock.own.pieces
 
 -- So many anchors were placed, in their distance up to there; the newest one, or the opening's end, is `last`.

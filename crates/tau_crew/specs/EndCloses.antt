@@ -9,12 +9,13 @@ use Rattle.tau_machine.specs.State.{Core, Ticket}
 use Rattle.tau_core.specs.Parts.{all_idle}
 use Rattle.tau_core.specs.Stands.{Stands}
 use Rattle.tau_core.specs.View.{Hidden, core_of}
+use Rattle.tau_occ.specs.declared.style.Style.{Style}
 use Rattle.tau_crew_facts.specs.Ends.{IsThreadEnd}
 use Rattle.tau_crew.specs.Clerking.{all_told}
 use Rattle.tau_core.specs.State.{Plain}
-use Rattle.tau_rule.specs.Role.{Managed}
+use Rattle.tau_rule.specs.Role.{Managed, managed_in_share}
 use Rattle.tau_rule.specs.Rule.{clerk_role, manager_role}
-use Rattle.tau_desk.specs.Manages.{acked_in_share, managed_in_share}
+use Rattle.tau_desk.specs.Manages.{acked_in_share}
 use Rattle.tau_desk.specs.Seats.{PlainHead}
 use Rattle.tau_crew.specs.declared.clerk.ClerkJob.{ClerkJob}
 use Rattle.tau_crew.specs.declared.manager.ManagerJob.{ManagerJob}
@@ -38,9 +39,9 @@ pub record IsAllBack {D : Type 0} {G : Ghosts D} (first : Plain) (table : TableI
   pub sees : SeesDurable h (map writer_in jobs)
 
 -- The core is that of a state in which the run has ended, where calls in hand are let go.
-pub record ClosesRun {D : Type 0} {G : Ghosts D} (first : Plain) (bases : ℕ → List ℕ) (ws ws' : List (Writer D G)) (telling : ClerkJob) (result : Plain) : Type 0 where
+pub record ClosesRun {D : Type 0} {G : Ghosts D} (first : Plain) (style : Style) (bases : ℕ → List ℕ) (ws ws' : List (Writer D G)) (telling : ClerkJob) (result : Plain) : Type 0 where
   pub state : Core
-  pub came : IsThreadEnd bases first state ws ws' (all_told telling.told)
+  pub came : IsThreadEnd bases first style state ws ws' (all_told telling.told)
   pub load : result.load ≡ first.load
   pub hidden : Hidden
   pub stands : Stands result came.closed.joined hidden

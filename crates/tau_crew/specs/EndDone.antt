@@ -4,6 +4,7 @@ use Rattle.tau_disk.specs.declared.disk.Disk.{Ghosts}
 use Rattle.tau_stream.specs.declared.writer.Writer.{Writer}
 use Rattle.tau_stream.specs.Writer.{durable_of, has_failed}
 use Rattle.tau_core.specs.State.{Plain}
+use Rattle.tau_occ.specs.declared.style.Style.{Style}
 use Rattle.tau_desk.specs.Manages.{acked_in, managed_in}
 use Rattle.tau_desk.specs.Resumes.{CanGoOn}
 use Rattle.tau_desk.specs.Seats.{PlainHead}
@@ -36,7 +37,7 @@ module _ {D : Type 0} {G : Ghosts D} where
     pub left : (h.me.0.found ≡ true) ⊎ CanGoOn (length first.load.calls) h.workers None
 
   -- The core is that of a state in which the run has ended, and it has gone to its end if all of them say so.
-  pub record ClosesDone (first : Plain) (bases : ℕ → List ℕ) (ws ws' : List (Writer D G)) (h : PlainHead) (jobs : List (ManagerJob D G)) (telling : ClerkJob) (result : Plain) : Type 0 where
-    pub run : ClosesRun first bases ws ws' telling result
+  pub record ClosesDone (first : Plain) (style : Style) (bases : ℕ → List ℕ) (ws ws' : List (Writer D G)) (h : PlainHead) (jobs : List (ManagerJob D G)) (telling : ClerkJob) (result : Plain) : Type 0 where
+    pub run : ClosesRun first style bases ws ws' telling result
     pub done : IsDone first h jobs telling → IsThreadDone first.load run.state ws'
     pub apart : NoneShort jobs → AreApart bases first.load run.state

@@ -17,6 +17,10 @@ AreLong (p ∷ ps) = (5 ≤ length p.bytes) × AreLong ps
 abbrev pub taken_in : PlainManagerSeat → List Piece
 taken_in s = (managed_in s.me.0).taken
 
+-- the persisted positions that it has stored
+abbrev pub stored_in : PlainManagerSeat → List ℕ
+stored_in s = (managed_in s.me.0).stored
+
 -- whether a seat with one role has raised the stop
 abbrev pub raised_in : Knows → Bool
 raised_in v = (first_role v.roles).1.raised
@@ -36,4 +40,5 @@ pub record GathersMore (s s' : PlainManagerSeat) (body longer : List ℕ) : Type
   pub seen : s'.seen ≡ s.seen
   pub opened : s'.me.0.opened ≡ s.me.0.opened
   pub raised : raised_in s'.me.0 ≡ raised_in s.me.0
+  pub stored : stored_in s' ≡ stored_in s
   pub anchors : s'.stock.anchors ≡ s.stock.anchors

@@ -1,10 +1,10 @@
 -- What the threads of a run keep.
-use Rattle.std.specs.Prelude.{ℕ, ◌≤◌, ◌≡◌, false, List, slice_index}
+use Rattle.std.specs.Prelude.{ℕ, ◌≡◌, false, List, slice_index}
 use Rattle.tau_base.specs.declared.format.Format.{Format}
 use Rattle.tau_disk.specs.declared.disk.Disk.{Ghosts}
 use Rattle.tau_stream.specs.declared.writer.Writer.{Writer}
 use Rattle.tau_stream.specs.Writer.{disk_of, durable_of, has_failed}
-use Rattle.tau_crew_facts.specs.Writers.{HasLong}
+use Rattle.tau_crew_facts.specs.Writers.{IsDurableSince}
 use Rattle.tau_crew.specs.declared.manager.ManagerJob.{ManagerJob}
 use Rattle.tau_crew.specs.Driving.{IsManagerAt}
 
@@ -35,11 +35,6 @@ module _ {D : Type 0} {G : Ghosts D} where
 -- if memory was there and its disk works, the head of each turn is as the entry: the present writer may count as that of the entry
 abbrev pub TurnsAreEntries : {D : Type 0} → Ghosts D → Type 0
 TurnsAreEntries {D} G = (format : Format) (n j : ℕ) (base : List ℕ) (w0 : Writer D G) (job : ManagerJob D G) → IsManagerJob format n j base w0 job → job.short ≡ false → has_failed job.writer ≡ false → IsManagerJob format n j base job.writer job
-
--- Since this moment every image of the disk has at least so much content, and some image no more: at that moment just so much was durable.
-pub record IsDurableSince {D : Type 0} (G : Ghosts D) (format : Format) (n j : ℕ) (d : D) (moment upto : ℕ) : Type 0 where
-  pub long : (x : List ℕ) → G.may_leave_since d moment x → HasLong format n j upto x
-  pub no_more : (x : List ℕ) × G.may_leave_since d moment x × ((more : ℕ) → HasLong format n j more x → more ≤ upto)
 
 -- So what is stored stays stored: whatever a manager does from the head of a turn on, of which it keeps what its loop keeps, what was
 -- durable then, which is what it had stored, is durable since that moment.

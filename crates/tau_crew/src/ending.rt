@@ -3,7 +3,7 @@ ghost use Rattle.std.specs.Prelude.{ℕ, ◌≡◌, ◌≤◌, [], Bool, false, 
 ghost use Rattle.tau_base.specs.declared.limits.TheConstants.{MAX_STREAMS};
 ghost use Rattle.tau_disk.specs.Disk.{Rose};
 ghost use Rattle.tau_run.specs.Gives.{CutOff, Gave};
-ghost use Rattle.tau_crew_facts.specs.Threads.{IsLowestFailed, in_threads};
+ghost use Rattle.tau_crew_facts.specs.Threads.{IsLowestFailed, lasting};
 ghost use Rattle.tau_crew.specs.Ending.{AreManagersBack, IsBack, IsClerkBack, IsHeadBack};
 ghost use Rattle.tau_crew.specs.EndCloses.{IsAllBack};
 ghost use Rattle.tau_crew.specs.EndDone.{IsDone};
@@ -72,7 +72,7 @@ pub(crate) fn end_short<R: Wait, D: Disk, K: Sink>(
     requires room { vec_len jobs ≤ vec_capacity writers.old }
     requires none { writers.old.items ≡ [] }
     ensures writers { writers.new.items ≡ map writer_in jobs.items }
-    ensures short { (bases : ℕ → List ℕ) (ws : List _) (held : List ℕ) (faults : ℕ) (short : Bool) → IsBack desk.table.shared.key.value desk.table.shared.table_id bases ws K.tells held (K.held sink.now) (Rose faults (K.faults sink.now)) head jobs.items clerk short → CutOff in_threads bases desk.table.shared.key.value.load ws writers.new.items K.tells held (K.held sink.now) (Rose faults (K.faults sink.now)) }
+    ensures short { (bases : ℕ → List ℕ) (ws : List _) (held : List ℕ) (faults : ℕ) (short : Bool) → IsBack desk.table.shared.key.value desk.table.shared.table_id bases ws K.tells held (K.held sink.now) (Rose faults (K.faults sink.now)) head jobs.items clerk short → CutOff (lasting desk.table.shared.key.style writers.new.items) bases desk.table.shared.key.value.load ws writers.new.items K.tells held (K.held sink.now) (Rose faults (K.faults sink.now)) }
 {
     let _ = sink;
     let told = gather_back(rt, &desk, &mut head, jobs, clerk, writers);
@@ -112,7 +112,7 @@ pub(crate) fn end_well<R: Wait, D: Disk, K: Sink>(
     requires room { vec_len jobs ≤ vec_capacity writers.old }
     requires none { writers.old.items ≡ [] }
     ensures writers { writers.new.items ≡ map writer_in jobs.items }
-    ensures ran { (bases : ℕ → List ℕ) (ws : List _) (held : List ℕ) (faults : ℕ) (short : Bool) → IsBack desk.table.shared.key.value desk.table.shared.table_id bases ws K.tells held (K.held sink.now) (Rose faults (K.faults sink.now)) head jobs.items clerk short → IsDone desk.table.shared.key.value head jobs.items clerk → Gave in_threads bases desk.table.shared.key.value.load ws writers.new.items K.tells held (K.held sink.now) (Rose faults (K.faults sink.now)) result }
+    ensures ran { (bases : ℕ → List ℕ) (ws : List _) (held : List ℕ) (faults : ℕ) (short : Bool) → IsBack desk.table.shared.key.value desk.table.shared.table_id bases ws K.tells held (K.held sink.now) (Rose faults (K.faults sink.now)) head jobs.items clerk short → IsDone desk.table.shared.key.value head jobs.items clerk → Gave (lasting desk.table.shared.key.style writers.new.items) bases desk.table.shared.key.value.load ws writers.new.items K.tells held (K.held sink.now) (Rose faults (K.faults sink.now)) result }
 {
     let _ = sink;
     let calls = desk.load.calls.len();

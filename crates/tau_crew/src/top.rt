@@ -11,7 +11,7 @@ ghost use Rattle.tau_run.specs.Writers.{AreNew, IsBegun};
 ghost use Rattle.tau_desk.specs.Ends.{IsFirst, IsWhole};
 ghost use Rattle.tau_desk.specs.Laid.{AreUnbegun};
 ghost use Rattle.tau_run.specs.Gives.{Gave, GaveFrom, GaveNew};
-ghost use Rattle.tau_crew_facts.specs.Threads.{in_threads};
+ghost use Rattle.tau_crew_facts.specs.Threads.{in_threads, lasting};
 ghost use Rattle.tau_crew.specs.Ending.{IsBack};
 
 use crate::clerk::ClerkJob;
@@ -28,11 +28,12 @@ use tau_base::{LogMode, MAX_BEGIN, NoMemory};
 use tau_core::Opening;
 use tau_desk::{Desk, Head};
 use tau_disk::{Disk, Gate, Sink};
+use tau_occ::Style;
 use tau_report::RunEnd;
 use tau_stream::Writer;
 use tau_text::Workload;
 
-/// Runs a workload in threads, with so many workers, on streams that were just created for it: workers, managers and the
+/// Runs a workload in threads, with so many workers in the style Locking, on streams that were just created for it: workers, managers and the
 /// clerk side by side. Then the calls left over run alone, each manager flushes what is left, and the clerk makes a last pass.
 /// Lines of acknowledgements go to the sink as they come.
 pub fn run_threads<R: Threads + Wait + Sync, D: Disk + Send, K: Sink + Send, G: Gate + Sync>(
@@ -52,15 +53,23 @@ pub fn run_threads<R: Threads + Wait + Sync, D: Disk + Send, K: Sink + Send, G: 
     requires calls { AreCalls load.now.declarations.procs load.now.calls }
     requires text { length (declarations_text load.now.declarations) ≤ MAX_CATALOGUE }
     requires fresh { AreNew (format_of mode) (λ j. catalogue_of load.now) writers.old.items }
-    ensures ran { GaveNew in_threads workers mode load.now writers.old.items writers.new.items K.tells (K.held sink.old) (K.held sink.new) (Rose (K.faults sink.old) (K.faults sink.new)) result }
+    ensures ran { GaveNew (in_threads Style.Locking) workers mode load.now writers.old.items writers.new.items K.tells (K.held sink.old) (K.held sink.new) (Rose (K.faults sink.old) (K.faults sink.new)) result }
+    ensures lasts { GaveNew (lasting Style.Locking writers.new.items) workers mode load.now writers.old.items writers.new.items K.tells (K.held sink.old) (K.held sink.new) (Rose (K.faults sink.old) (K.faults sink.new)) result }
     ensures faults { K.faults sink.old ≤ K.faults sink.new }
     ensures count { length writers.new.items ≡ length writers.old.items }
 {
-    let (desk, head) = Desk::new(alloc, load, writers.len() as u8, workers, mode)?;
+    let (desk, head) = Desk::new(
+        alloc,
+        load,
+        writers.len() as u8,
+        workers,
+        mode,
+        Style::Locking,
+    )?;
     go(rt, alloc, desk, head, writers, sink, gate)
 }
 
-/// The same from a given state, on streams that end where it says.
+/// The same from a given state, on streams that end where it says, in a given style. The calls left over run in the style Locking.
 pub fn run_threads_from<R: Threads + Wait + Sync, D: Disk + Send, K: Sink + Send, G: Gate + Sync>(
     rt: &R,
     alloc: Global,
@@ -71,6 +80,7 @@ pub fn run_threads_from<R: Threads + Wait + Sync, D: Disk + Send, K: Sink + Send
     writers: &mut Vec<Writer<D>>,
     sink: &mut K,
     gate: &G,
+    style: Style,
 ) -> Result<RunEnd, NoMemory>
     requires low { 1 ≤ workers }
     requires high { workers ≤ MAX_WORKERS }
@@ -79,14 +89,16 @@ pub fn run_threads_from<R: Threads + Wait + Sync, D: Disk + Send, K: Sink + Send
     requires fits { Fits opening }
     requires begun { (bases : ℕ → List ℕ) × IsBegun (format_of mode) bases writers.old.items opening }
     ensures ran { (bases : ℕ → List ℕ) → IsBegun (format_of mode) bases writers.old.items opening →
-        GaveFrom in_threads opening bases workers mode load.now writers.old.items writers.new.items K.tells (K.held sink.old) (K.held sink.new) (Rose (K.faults sink.old) (K.faults sink.new)) result }
+        GaveFrom (in_threads style) opening bases workers mode load.now writers.old.items writers.new.items K.tells (K.held sink.old) (K.held sink.new) (Rose (K.faults sink.old) (K.faults sink.new)) result }
+    ensures lasts { (bases : ℕ → List ℕ) → IsBegun (format_of mode) bases writers.old.items opening →
+        GaveFrom (lasting style writers.new.items) opening bases workers mode load.now writers.old.items writers.new.items K.tells (K.held sink.old) (K.held sink.new) (Rose (K.faults sink.old) (K.faults sink.new)) result }
     ensures faults { K.faults sink.old ≤ K.faults sink.new }
     ensures count { length writers.new.items ≡ length writers.old.items }
 {
     if is_long(&opening) {
         return Err(NoMemory);
     }
-    let (desk, head) = Desk::open(alloc, load, opening, workers, mode)?;
+    let (desk, head) = Desk::open(alloc, load, opening, workers, mode, style)?;
     go(rt, alloc, desk, head, writers, sink, gate)
 }
 
@@ -119,7 +131,7 @@ fn go<R: Threads + Wait + Sync, D: Disk + Send, K: Sink + Send, G: Gate + Sync>(
     requires unbegun { AreUnbegun head.workers }
     requires begun { (bases : ℕ → List ℕ) × IsBegun (format_of desk.table.shared.key.value.load.mode) bases writers.old.items desk.table.shared.key.value.load.opening }
     ensures ran { (bases : ℕ → List ℕ) → IsBegun (format_of desk.table.shared.key.value.load.mode) bases writers.old.items desk.table.shared.key.value.load.opening →
-        Gave in_threads bases desk.table.shared.key.value.load writers.old.items writers.new.items K.tells (K.held sink.old) (K.held sink.new) (Rose (K.faults sink.old) (K.faults sink.new)) result }
+        Gave (lasting desk.table.shared.key.style writers.new.items) bases desk.table.shared.key.value.load writers.old.items writers.new.items K.tells (K.held sink.old) (K.held sink.new) (Rose (K.faults sink.old) (K.faults sink.new)) result }
     ensures faults { K.faults sink.old ≤ K.faults sink.new }
     ensures count { length writers.new.items ≡ length writers.old.items }
 {
@@ -187,7 +199,7 @@ fn finish<R: Threads + Wait + Sync, D: Disk + Send, K: Sink + Send, G: Gate + Sy
     requires room { vec_len jobs ≤ vec_capacity writers.old }
     requires none { writers.old.items ≡ [] }
     ensures ran { (bases : ℕ → List ℕ) (ws : List _) (held : List ℕ) (faults : ℕ) → faults ≤ K.faults sink.old → IsBack desk.table.shared.key.value desk.table.shared.table_id bases ws K.tells held (K.held sink.old) (Rose faults (K.faults sink.old)) head jobs.items clerk short →
-        Gave in_threads bases desk.table.shared.key.value.load ws writers.new.items K.tells held (K.held sink.new) (Rose faults (K.faults sink.new)) result }
+        Gave (lasting desk.table.shared.key.style writers.new.items) bases desk.table.shared.key.value.load ws writers.new.items K.tells held (K.held sink.new) (Rose faults (K.faults sink.new)) result }
     ensures faults { K.faults sink.old ≤ K.faults sink.new }
     ensures count { length writers.new.items ≡ length jobs.items }
 {

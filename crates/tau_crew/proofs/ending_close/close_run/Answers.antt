@@ -17,4 +17,4 @@ pub close-requires-clause-rests : goal.close-requires-clause-rests
 close-requires-clause-rests g c = let (bases, ws, jobs, telling, same, b) = c.requires.back in resting _ _ bases ws c.args.head jobs telling b c.agrees.ensures
 
 pub returns : goal.returns
-returns g c = λ bases ws jobs telling same b. subst (λ (ws' : List _). ClosesDone c.args.desk.table.shared.key.value bases ws ws' c.args.head jobs telling c.close.result) (sym same) (closes_done _ _ bases ws c.args.head jobs telling b c.agrees.ensures c.close.result c.close.ensures)
+returns g c = λ bases ws jobs telling same b. subst (λ (ws' : List _). ClosesDone c.args.desk.table.shared.key.value c.args.desk.table.shared.key.style bases ws ws' c.args.head jobs telling c.close.result) (sym same) (closes_done _ _ bases ws c.args.head jobs telling b c.agrees.ensures c.close.result c.close.ensures)
