@@ -22,6 +22,7 @@ use Rattle.tau_report.specs.declared.report.RunEnd.{RunEnd}
 use Rattle.tau_core.specs.declared.opening.Opening.{Opening}
 use Rattle.tau_core.specs.declared.state.Load.{Load}
 use Rattle.tau_core.specs.Opens.{load_of}
+use Rattle.tau_occ.specs.declared.style.Style.TheVariants.{Locking}
 use Rattle.tau_run.specs.Start.{Start, IsStart, opened_at}
 use Rattle.tau_run.specs.CoreRun.{IsLoadOn, IsOpeningOn, IsSoundLoad}
 use Rattle.tau_run.specs.Gives.{CameTo, Concluded, Gave, GaveFrom}
@@ -85,9 +86,9 @@ module _ {D : Type 0} {G : Ghosts D} (only_now : OnlyNow G) (n m : ℕ) (mode : 
 
     -- ---- its anchors, in threads, if no disk failed
 
-    module _ (threads : load.turns ≡ None) (e : RunEnd) (c : Concluded in_threads (opened_at load start) l ws after out.hears out.held held1 (Rose out.faults faults1) e) (none : e.disk ≡ None) where
+    module _ (threads : load.turns ≡ None) (e : RunEnd) (c : Concluded (in_threads Locking) (opened_at load start) l ws after out.hears out.held held1 (Rose out.faults faults1) e) (none : e.disk ≡ None) where
       abbrev t : CameTo by (opened_at load start) l ws after c.acks
-      t = of.came_by in_threads by (opened_at load start) l ws after
+      t = of.came_by (in_threads Locking) by (opened_at load start) l ws after
           (λ whole opening p x. subst (λ (turns : Option (List Turn)). ran_by turns n m load whole l opening p) (sym threads) x) c.came
 
       going : NamesLowest l.streams (stops_in c.came.state) None

@@ -24,7 +24,7 @@ use Rattle.tau_commands.specs.Outside.{Wrote}
 
 -- How the events of a run are chosen: by turns if the workload has them, also none, else in threads.
 abbrev pub ran_by : Option (List Turn) → ℕ → ℕ → Workload → Bool → Load → Core → Progress → Type 0
-ran_by None n m load = in_threads
+ran_by None n m load = in_threads Locking
 ran_by (Some turns) n m load = by_turns Locking n m load
 
 -- What was told after the acknowledgements of a run that went to its end, by the answer: the rest of the report, a

@@ -107,6 +107,7 @@ fn run_from<R: Threads + Wait + Sync, D: Disk + Send, K: Sink + Send, G: Gate + 
                 &mut writers,
                 sink,
                 gate,
+                Style::Locking,
             );
             (end, writers)
         }
