@@ -12,6 +12,7 @@ use tau_ack::Waiting;
 use tau_base::{Key, LogMode, Lv, MAX_CATALOGUE, Value};
 use tau_core::Core;
 use tau_desk::{Acted, ClerkSeat, Desk, Head, ManagerSeat, WorkerSeat};
+use tau_occ::Style;
 use tau_text::{parse_workload, print_declarations};
 use tau_txn::ActionKind;
 
@@ -40,7 +41,7 @@ pub fn desk_of(alloc: Global, text: &[u8], n: u8, m: u8) -> Result<(Desk, Head),
     if printed.len() > MAX_CATALOGUE {
         return Err(Fail::new("the declarations are too long"));
     }
-    match Desk::new(alloc, &load, n, m, LogMode::Values) {
+    match Desk::new(alloc, &load, n, m, LogMode::Values, Style::Locking) {
         Ok(opened) => Ok(opened),
         Err(_) => Err(Fail::new("no memory")),
     }
