@@ -111,7 +111,7 @@ module _ {D : Type 0} {G : Ghosts D} (only_now : OnlyNow G) (n m : ℕ) (mode : 
           let same : slice_index_or c.came.contents j [] ≡ content.0 = get_or_from_slice_get c.came.contents j content.0 [] content.1 in (
             content.0,
             subst (λ (b : List ℕ). HasContent (format_of mode) n j b x) same (whole_now j x lt now),
-            apart.thread_spaced begun_on c.came c.whole c.over going j content.0 lt content.1,
+            apart.thread_spaced begun_on Locking c.came c.whole c.over going j content.0 lt content.1,
           )
 
     abbrev Spaces : Result RunEnd NoMemory → Type 0
