@@ -25,3 +25,5 @@ pub mod WorkPhase
 pub mod Tops
 pub mod LeftOver
 pub mod EndCount
+mod LockSeen
+mod PeekedCalls

@@ -14,3 +14,4 @@ pub mod Dealing
 pub mod EndDone
 pub mod EndLeft
 pub mod LeftOver
+pub mod PeekedCalls

@@ -9,6 +9,7 @@ use std::sync::Wait;
 use tau_base::{MAX_WORKERS, NoMemory};
 use tau_desk::{Desk, Head, WorkerSeat};
 use tau_disk::Gate;
+use tau_occ::Style;
 
 /// The first worker whose role is out.
 fn first_out(head: &Head) -> u8
@@ -40,7 +41,7 @@ fn run_alone<R: Wait, G: Gate>(
     ensures { SeatBack desk.now.table.shared.key.value.load head.old head.new seat result }
 {
     seat.agrees();
-    let ended = work(rt, desk, &mut seat, worker, gate);
+    let ended = work(rt, desk, &mut seat, worker, gate, Style::Locking);
     seat.agrees();
     desk.join_worker(head, seat);
     ended

@@ -15,6 +15,7 @@ mod gather;
 mod laws;
 mod left_over;
 mod manager;
+mod optimist;
 mod shared;
 mod together;
 mod told;
@@ -26,7 +27,7 @@ mod worker;
 
 pub use anchor::Marks;
 pub use clerk::ClerkJob;
-pub use laws::stored_stays;
+pub use laws::{commits_what_it_peeked, stored_stays};
 pub use manager::ManagerJob;
 pub use shared::Crew;
 pub use told::Told;

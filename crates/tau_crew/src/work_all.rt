@@ -33,7 +33,7 @@ fn run_seat<R: Wait, G: Gate>(
     requires rests { seat.work.txn.hand ≡ None }
     ensures { SeatRan desk.now.table.shared.key.value.load seat result.0 result.1 }
 {
-    let ended = work(rt, desk, &mut seat, worker, gate);
+    let ended = work(rt, desk, &mut seat, worker, gate, desk.style);
     let short = ended.is_err();
     seat.agrees();
     crew.leave();

@@ -6,30 +6,34 @@ ghost use Rattle.tau_txn.specs.Txn.{held_in};
 ghost use Rattle.tau_desk.specs.Works.{IsSameSeat};
 ghost use Rattle.tau_crew.specs.Working.{HasNone, IsUnjoined, WorkerEnds, WorksOn, has_raised};
 
+use crate::optimist;
 use std::sync::Wait;
 use std::thread;
 use tau_base::{ANCHOR_BYTES, NoMemory, stream_of};
 use tau_desk::{Acted, Desk, WorkerSeat};
 use tau_disk::{Gate, Place};
+use tau_occ::Style;
 use tau_txn::ActionKind;
 
-/// Runs the calls of the worker on its seat until it has none left or finds the stop raised; those that met Busy too often are
-/// left over then. Out of memory the call in hand gives its keys back, and the stop is raised.
+/// Runs the calls of the worker in this style on its seat until it has none left or finds the stop raised; those that met Busy
+/// too often are left over then. Out of memory the call in hand gives its keys back, and the stop is raised.
 pub fn work<R: Wait, G: Gate>(
     rt: &R,
     desk: &Desk,
     seat: &mut WorkerSeat,
     worker: u8,
     gate: &G,
+    style: Style,
 ) -> Result<(), NoMemory>
     requires own { seat.old.table_id ≡ desk.now.table.shared.table_id }
     requires opened { seat.old.me.0.opened ≡ Some desk.now.table.shared.key.value }
     requires run { Opened desk.now.table.shared.key.value.load desk.now.table.shared.key.value }
+    requires style { style ≡ Style.Optimistic → desk.now.style ≡ Style.Optimistic }
     requires rests { seat.old.work.txn.hand ≡ None }
     ensures { WorkerEnds desk.now.table.shared.key.value.load seat.old seat.new result }
 {
     seat.agrees();
-    match run_calls(rt, desk, seat, worker, gate) {
+    match run_in(rt, desk, seat, worker, gate, style) {
         Ok(()) => {
             seat.agrees();
             Ok(())
@@ -39,6 +43,31 @@ pub fn work<R: Wait, G: Gate>(
             seat.agrees();
             Err(error)
         }
+    }
+}
+
+/// Runs calls of the worker in this style. Out of memory, the call in hand has not joined the committed ones.
+fn run_in<R: Wait, G: Gate>(
+    rt: &R,
+    desk: &Desk,
+    seat: &mut WorkerSeat,
+    worker: u8,
+    gate: &G,
+    style: Style,
+) -> Result<(), NoMemory>
+    requires own { seat.old.table_id ≡ desk.now.table.shared.table_id }
+    requires opened { seat.old.me.0.opened ≡ Some desk.now.table.shared.key.value }
+    requires run { Opened desk.now.table.shared.key.value.load desk.now.table.shared.key.value }
+    requires style { style ≡ Style.Optimistic → desk.now.style ≡ Style.Optimistic }
+    requires rests { seat.old.work.txn.hand ≡ None }
+    ensures works { WorksOn seat.old seat.new }
+    ensures rests { OnOk result (seat.new.work.txn.hand ≡ None) }
+    ensures ended { OnOk result ((seat.new.me.0.found ≡ true) ⊎ HasNone desk.now.table.shared.key.value.load seat.new) }
+    ensures short { OnErr result (IsUnjoined seat.new.work.txn) }
+{
+    match style {
+        Style::Locking => run_calls(rt, desk, seat, worker, gate),
+        Style::Optimistic => optimist::run_calls(rt, desk, seat, worker, gate),
     }
 }
 
@@ -142,7 +171,11 @@ fn run_next<R: Wait, G: Gate>(
 }
 
 /// The next call of the worker comes into the hand, and has done nothing. Returns whether there is one.
-fn begin_next<R: Wait>(rt: &R, desk: &Desk, seat: &mut WorkerSeat) -> Result<bool, NoMemory>
+pub(crate) fn begin_next<R: Wait>(
+    rt: &R,
+    desk: &Desk,
+    seat: &mut WorkerSeat,
+) -> Result<bool, NoMemory>
     requires own { seat.old.table_id ≡ desk.now.table.shared.table_id }
     requires opened { seat.old.me.0.opened ≡ Some desk.now.table.shared.key.value }
     requires run { Opened desk.now.table.shared.key.value.load desk.now.table.shared.key.value }
@@ -198,7 +231,7 @@ fn run_call<R: Wait, G: Gate>(
 }
 
 /// The next action of the call in hand. Out of memory, the call has not joined the committed ones.
-fn act<R: Wait, G: Gate>(
+pub(crate) fn act<R: Wait, G: Gate>(
     rt: &R,
     desk: &Desk,
     seat: &mut WorkerSeat,
@@ -240,7 +273,7 @@ fn lock<R: Wait>(rt: &R, desk: &Desk, seat: &mut WorkerSeat) -> Result<(), NoMem
 }
 
 /// Lets other threads run before a call that met Busy begins again: who holds its key may have no processor.
-fn give_way(seat: &WorkerSeat) {
+pub(crate) fn give_way(seat: &WorkerSeat) {
     match seat.next() {
         ActionKind::Quit => {}
         _ => thread::yield_now(),
