@@ -14,7 +14,7 @@ use Rattle.tau_follow_laws.specs.Feeding.{Piece, with_piece, HasFed}
 use Rattle.tau_follow_laws.specs.Following.{Followed, left_out, with_read}
 use Rattle.tau_follow.specs.declared.reader.Reader.{Reader}
 use Rattle.tau_follow.specs.declared.state.State.{State}
-use Rattle.tau_follow.specs.Reading.{IsRead, is_cut}
+use Rattle.tau_follow.specs.Reading.{IsRead, lacking}
 use Rattle.tau_follow.specs.Feeding.{AreRead}
 use Rattle.tau_follow.specs.State.{IsAt, HasRead}
 use Rattle.tau_follow.proofs.Feeding.{got_set, got_other, set_long}
@@ -43,25 +43,51 @@ total_short kind bytes long lacks =
     let l = length-drop 4 bytes in
     rw (not_less (length bytes) 4 long, is_less (length (drop 4 bytes) + 5) (from_be_bytes w32 (take 4 bytes)) (omega (arith, l, long, lacks))) refl
 
-lacking : (bytes : List ℕ) (more total : ℕ) → 4 ≤ length bytes → more < total - (length (drop 4 bytes) + 5) → length bytes + more + 1 < total
-lacking bytes more total long lt = let l = length-drop 4 bytes in omega (arith, l, long, lt)
+total_cut : (kind : ℕ) (bytes : List ℕ) → 0 < (if nat_lt (length bytes) 4 then 4 - length bytes else from_be_bytes w32 (take 4 bytes) - (length (drop 4 bytes) + 5)) → total_at w32 kind bytes ≡ Err Short
+total_cut kind bytes lt = elim (cases_Bool (nat_lt (length bytes) 4)) [
+  | inl t ↦ rw t refl
+  | inr g ↦
+      let long = at_least (length bytes) 4 g in
+      let some : 0 < from_be_bytes w32 (take 4 bytes) - (length (drop 4 bytes) + 5) = (rw g at lt) in
+      let l = length-drop 4 bytes in
+      total_short kind bytes long (omega (arith, l, long, some))
+]
 
-pub short_by : (f : Format) (n k : ℕ) (vectors : List (List ℕ)) (first : Bool) (rest bytes : List ℕ) → is_cut first rest (length bytes) ≡ true → record_at f n k vectors first (rest ++ bytes) ≡ Err Short
+-- a record that lacks bytes is short
+pub short_now : (f : Format) (n k : ℕ) (vectors : List (List ℕ)) (first : Bool) (bytes : List ℕ) → 0 < lacking first bytes → record_at f n k vectors first bytes ≡ Err Short
 unfolding record_at frame_at
-short_by f n k vectors first [] bytes e = absurd (both_ways false refl e)
-short_by f n k vectors first (kind ∷ rest) bytes e =
-    let p = and_parts (kind_fits first kind) (if nat_lt (length rest) 4 then false else nat_lt (length bytes) (from_be_bytes w32 (take 4 rest) - (length (drop 4 rest) + 5))) e in
-    elim (cases_Bool (nat_lt (length rest) 4)) [
-      | inl t ↦ absurd (both_ways false refl (rw t at p.1))
-      | inr g ↦
-          let long = at_least (length rest) 4 g in
-          let lt = less_is (length bytes) (from_be_bytes w32 (take 4 rest) - (length (drop 4 rest) + 5)) (rw g at p.1) in
-          let l = length-append rest bytes in
-          let front : take 4 (rest ++ bytes) ≡ take 4 rest = take_first 4 rest bytes long in
-          let lacks = lacking rest (length bytes) (from_be_bytes w32 (take 4 rest)) long lt in
-          let short = total_short kind (rest ++ bytes) (omega (arith, l, long)) (subst (λ (x : List ℕ). length (rest ++ bytes) + 1 < from_be_bytes w32 x) (sym front) (omega (arith, l, lacks))) in
-          rw (p.0, short) refl
-    ]
+short_now f n k vectors first [] lt = absurd (omega (arith, lt))
+short_now f n k vectors first (kind ∷ bytes) lt = elim (cases_Bool (kind_fits first kind)) [
+  | inr f ↦ absurd (let none = (rw f at lt) in omega (arith, none))
+  | inl t ↦ (let short = total_cut kind bytes (rw t at lt) in rw (t, short) refl)
+]
+
+asked_on : (bytes more : List ℕ) → length more < (if nat_lt (length bytes) 4 then 4 - length bytes else from_be_bytes w32 (take 4 bytes) - (length (drop 4 bytes) + 5)) →
+    (if nat_lt (length bytes) 4 then 4 - length bytes else from_be_bytes w32 (take 4 bytes) - (length (drop 4 bytes) + 5)) ≤ (if nat_lt (length (bytes ++ more)) 4 then 4 - length (bytes ++ more) else from_be_bytes w32 (take 4 (bytes ++ more)) - (length (drop 4 (bytes ++ more)) + 5)) + length more
+asked_on bytes more lt = elim (cases_Bool (nat_lt (length bytes) 4)) [
+  | inl t ↦
+      let l = length-append bytes more in
+      let low = less_is (length bytes) 4 t in
+      let few : length more < 4 - length bytes = (rw t at lt) in
+      let still : nat_lt (length (bytes ++ more)) 4 ≡ true = is_less (length (bytes ++ more)) 4 (omega (arith, l, few)) in
+      rw (t, still) (omega (arith, l))
+  | inr g ↦
+      let l = length-append bytes more in
+      let long = at_least (length bytes) 4 g in
+      let still : nat_lt (length (bytes ++ more)) 4 ≡ false = not_less (length (bytes ++ more)) 4 (omega (arith, l, long)) in
+      let front : take 4 (bytes ++ more) ≡ take 4 bytes = take_first 4 bytes more long in
+      let d = length-drop 4 bytes in
+      let e = length-drop 4 (bytes ++ more) in
+      rw (g, still, front) (omega (arith, l, long, d, e))
+]
+
+-- what is lacking once some bytes of it are there
+pub lacks_on : (first : Bool) (rest bytes : List ℕ) → length bytes < lacking first rest → lacking first rest ≤ lacking first (rest ++ bytes) + length bytes
+lacks_on first [] bytes lt = omega arith
+lacks_on first (kind ∷ rest) bytes lt = elim (cases_Bool (kind_fits first kind)) [
+  | inr f ↦ rw f (omega arith)
+  | inl t ↦ (let few = (rw t at lt) in let h = asked_on rest bytes few in rw t h)
+]
 
 pub set_same : {A : Type 0} (xs : List A) (i : ℕ) (x : A) → slice_get xs i ≡ Some x → set xs i x ≡ xs
 set_same [] i x e = refl

@@ -1,5 +1,5 @@
 -- An applier goes on record by record.
-use Rattle.std.proofs.Common.{ℕ, zero, suc, ◌≤◌, ◌<◌, Bool, true, false, ◌≡◌, inr, List, [], ◌∷◌, ◌++◌, length, Some, sym, ap, subst, ◌∙◌, arith, slice_index}
+use Rattle.std.proofs.Common.{ℕ, zero, suc, ◌≤◌, ◌<◌, Bool, true, false, ◌≡◌, ◌≢◌, inl, inr, List, [], ◌∷◌, ◌++◌, length, set, Some, refl, sym, ap, subst, ◌∙◌, arith, slice_index, get_or-set_other, get_or-set_same}
 use Rattle.std.specs.Prelude.{slice_get}
 use Rattle.tau_record.specs.declared.entry.Placed.{Placed}
 use Rattle.tau_follow_laws.specs.Following.{Followed, rlv, NoneReady, applied}
@@ -9,8 +9,10 @@ use Rattle.tau_follow.specs.declared.stage.Stage.{Stage}
 use Rattle.tau_follow.specs.declared.stage.Stage.TheVariants as stages
 use Rattle.tau_follow.specs.Applying.{is_ready_in, reaches, ArePassed, set_stage, stages_from, AreSpots}
 use Rattle.tau_follow.specs.Waits.{AreFound, AreKept, AreAllAbove}
+use Rattle.tau_follow.specs.declared.waits.Waits.{Waits}
+use Rattle.std.specs.Global.{Vec}
 use Rattle.tau_follow.proofs.Queued.{found_more, found_applied, none_found, none_in}
-use Rattle.tau_follow.specs.Holding.{Holds, HasApplied, HasFollowed}
+use Rattle.tau_follow.specs.Holding.{Holds, HasApplied, HasFollowed, IsKnown, IsReadyAt}
 use Rattle.tau_follow.proofs.Staging.{AtSpot, reaches_are, ready_spot, none_spot, applied_stages, passed_still}
 use Rattle.tau_follow.specs.declared.spot.Spot.{Spot}
 use Rattle.tau_follow.proofs.Spots.{spots_push}
@@ -38,7 +40,7 @@ module _ (streams : List (List Placed)) (t : Followed) (a : Applier) (h : Holds 
   }
 
   -- what waits, by the streams that are lent
-  kept_is : AreKept streams a.stages.items a.waits
+  pub kept_is : AreKept streams a.stages.items a.waits
   kept_is = subst (λ (xs : List (List Placed)). AreKept xs a.stages.items a.waits) (sym h.streams_are) h.staged.kept
 
   -- how far the streams are followed is told by where their records stand
@@ -130,3 +132,61 @@ module _ (streams : List (List Placed)) (s : Followed) (a b : Applier) (first se
         applies = applies_push s d.now d.news x.kept d.applies x.ready;
         holds = with_spot streams d.now a d.holds b j i x st risen order then_kept;
       }
+
+-- ---- a record that is ready
+
+-- what was known to wait is known to
+pub kept_passed : (streams : List (List Placed)) (stages : List (List Stage)) (a b : Waits) → b.lost ≡ a.lost → (AreFound streams stages a.looked.items a.queues.items → AreFound streams stages b.looked.items b.queues.items) → AreKept streams stages a → AreKept streams stages b
+kept_passed streams stages a b lost found k = elim k [ inl l ↦ inl (lost ∙ l) | inr f ↦ inr (found f) ]
+
+-- each number of a list but one
+pub others_stay : (reached now : List ℕ) (j at : ℕ) → now ≡ set reached j at → (l : ℕ) → l ≢ j → slice_index now l ≡ slice_index reached l
+others_stay reached now j at e l other = ap (λ (v : List ℕ). slice_index v l) e ∙ get_or-set_other reached j l at 0 other
+
+pub that_is : (reached now : List ℕ) (j at : ℕ) → now ≡ set reached j at → j < length reached → slice_index now j ≡ at
+that_is reached now j at e lt = ap (λ (v : List ℕ). slice_index v j) e ∙ get_or-set_same reached j at 0 lt
+
+module _ (streams : List (List Placed)) (s : Followed) (a b : Applier) (reached : List ℕ) (spot : Spot) (x : IsReadyAt streams s a reached spot) where
+  -- it is not applied for lack of memory
+  pub not_applied : b.stages.items ≡ a.stages.items → b.order.items ≡ a.order.items → b.firsts ≡ a.firsts → b.waits.lost ≡ true → HasApplied streams s b
+  not_applied st order firsts lost =
+      step_kept streams s x.was b x.was.stages.items x.applied refl (λ p. subst (λ (v : Vec ℕ). ArePassed x.was.stages.items v.items) (sym (firsts ∙ x.firsts)) p)
+      (st ∙ ap (λ (v : Vec (List Stage)). v.items) x.stages) (order ∙ ap (λ (v : Vec Spot). v.items) x.order) (λ k. inl lost)
+
+  module _ (st : b.stages.items ≡ set_stage a.stages.items spot.stream spot.index stages.Applied) (order : b.order.items ≡ a.order.items ++ spot ∷ []) (firsts : b.firsts ≡ a.firsts) (waits : b.waits ≡ a.waits) where
+    pub found_then : AreFound streams b.stages.items b.waits.looked.items b.waits.queues.items
+    found_then = subst (λ (w : Waits). AreFound streams b.stages.items w.looked.items w.queues.items) (sym waits)
+        (subst (λ (l : List (List Stage)). AreFound streams l a.waits.looked.items a.waits.queues.items) (sym st) (found_applied streams a.stages.items a.waits.looked.items a.waits.queues.items spot x.found))
+
+    pub above_then : AreAllAbove reached b.waits.queues.items
+    above_then = subst (λ (w : Waits). AreAllAbove reached w.queues.items) (sym waits) x.above
+
+    pub applied_then : HasApplied streams s b
+    applied_then =
+        let same = ap (λ (v : Vec (List Stage)). v.items) x.stages in
+        step_applied streams s x.was b x.was.stages.items a.stages.items reached reached x.applied refl (λ p. x.reached_is ∙ ap (reaches streams) same) (λ p. subst (λ (v : Vec ℕ). ArePassed x.was.stages.items v.items) (sym (firsts ∙ x.firsts)) p)
+        same refl spot.stream spot.index x.ready (st ∙ ap (λ (l : List (List Stage)). set_stage l spot.stream spot.index stages.Applied) same) (order ∙ ap (λ (v : Vec Spot). v.items ++ spot ∷ []) x.order)
+        (λ k. subst (λ (w : Waits). AreFound streams a.stages.items (w.looked.items ++ spot ∷ []) w.queues.items) (sym waits) x.found)
+
+-- ---- once it is looked how far the streams are followed
+
+module _ (streams : List (List Placed)) (s : Followed) (a b : Applier) (first second : List (List Stage)) (list re : List ℕ) (d : HasApplied streams s a)
+    (first_is : first ≡ a.stages.items) (told : ArePassed first a.firsts.items → list ≡ reaches streams first) (rose : ArePassed first a.firsts.items → ArePassed first b.firsts.items)
+    (second_is : second ≡ a.stages.items) (re_is : re ≡ list) (st : b.stages ≡ a.stages) (order : b.order ≡ a.order)
+    (found : AreKept streams second a.waits → AreFound streams second b.waits.looked.items b.waits.queues.items) (above : AreAllAbove re b.waits.queues.items) where
+  stood : b.stages.items ≡ a.stages.items
+  stood = ap (λ (v : Vec (List Stage)). v.items) st
+
+  found_now : AreFound streams a.stages.items b.waits.looked.items b.waits.queues.items
+  found_now = subst (λ (l : List (List Stage)). AreFound streams l b.waits.looked.items b.waits.queues.items) second_is
+      (found (subst (λ (l : List (List Stage)). AreKept streams l a.waits) (sym second_is) (kept_is streams d.now a d.holds)))
+
+  pub applied_known : HasApplied streams s b
+  applied_known = step_kept streams s a b first d first_is rose stood (ap (λ (v : Vec Spot). v.items) order) (λ k. inr found_now)
+
+  pub is_known : IsKnown streams b list
+  is_known = record {
+    reached_is = told (subst (λ (l : List (List Stage)). ArePassed l a.firsts.items) (sym first_is) d.holds.staged.passed) ∙ ap (reaches streams) (first_is ∙ sym stood);
+    found = subst (λ (l : List (List Stage)). AreFound streams l b.waits.looked.items b.waits.queues.items) (sym stood) found_now;
+    above = subst (λ (l : List ℕ). AreAllAbove l b.waits.queues.items) re_is above;
+  }

@@ -52,15 +52,20 @@ declared_none f n content r ps none g zero_at none_is =
     let at_start : length g.front ≡ 0 = sym g.place ∙ zero_at in
     none_is ∙ sym (g.declarations ∙ ap (λ (l : List Placed). declared_by (catalogue_of l)) (nothing_read f n g.front ps g.read at_start))
 
-pub read_undone : (f : Format) (n : ℕ) (content : List ℕ) (r t : Reader) (ps : List Placed) → IsRead f n content ps r → t.rest.items ≡ r.rest.items → t.at ≡ r.at → t.vectors.items ≡ r.vectors.items → t.last ≡ r.last → t.declarations ≡ r.declarations → IsRead f n content ps t
-read_undone f n content r t ps g rest at vectors last declarations = record {
-  front = g.front;
-  parts = g.parts ∙ ap (λ (l : List ℕ). g.front ++ drop 0 l) (sym rest);
-  read = g.read;
-  declared = g.declared;
-  place = at ∙ g.place;
-  vectors = vectors ∙ g.vectors;
-  last = last ∙ g.last;
-  declarations = declarations ∙ g.declarations;
-  within = omega arith;
-}
+pub read_undone : (f : Format) (n : ℕ) (content : List ℕ) (r t : Reader) (ps : List Placed) → IsRead f n content ps r → t.rest.items ≡ r.rest.items → t.at ≡ r.at → t.vectors.items ≡ r.vectors.items → t.last ≡ r.last → t.declarations ≡ r.declarations → t.lacks ≡ 0 → IsRead f n content ps t
+read_undone f n content r t ps h rest at vectors last declarations none =
+    let g = h.going in
+    record {
+      going = record {
+        front = g.front;
+        parts = g.parts ∙ ap (λ (l : List ℕ). g.front ++ drop 0 l) (sym rest);
+        read = g.read;
+        declared = g.declared;
+        place = at ∙ g.place;
+        vectors = vectors ∙ g.vectors;
+        last = last ∙ g.last;
+        declarations = declarations ∙ g.declarations;
+        within = omega arith;
+      };
+      wants = omega (arith, none);
+    }

@@ -224,6 +224,13 @@ above_set reached queues k q here all = λ l queue there. (elim (got_set queues 
   | inr w ↦ all l queue w.1
 ])
 
+-- one queue holds what waits for more than a stream is followed now
+pub above_passed : (before now : List ℕ) (queues : List (List Wait)) (k at : ℕ) (q : List Wait) → AreAllAbove before queues → slice_index now k ≡ at → ((l : ℕ) → l ≢ k → slice_index now l ≡ slice_index before l) → AreAbove at q → AreAllAbove now (set queues k q)
+above_passed before now queues k at q all here others above = λ l queue there. (elim (got_set queues k l q queue there) [
+  | inl w ↦ subst (λ (n : ℕ). AreAbove n queue) (sym (ap (slice_index now) w.0 ∙ here)) (subst (λ (x : List Wait). AreAbove at x) w.1 above)
+  | inr w ↦ subst (λ (n : ℕ). AreAbove n queue) (sym (others l w.0)) (all l queue w.1)
+])
+
 -- an element that is lent is there
 pub got_at : {A : Type 0} (xs : List A) (j : ℕ) (x : A) → j < length xs → x ≡ slice_index_or xs j x → slice_get xs j ≡ Some x
 got_at [] j x lt e = absurd (omega (arith, lt))

@@ -1,5 +1,5 @@
 -- How far streams are followed, from where their records stand.
-use Rattle.std.proofs.Common.{ℕ, zero, suc, ◌+◌, ◌-◌, ◌≤◌, ◌<◌, Bool, true, false, cond, ◌≡◌, inl, inr, List, [], ◌∷◌, ◌++◌, length, drop, min, Some, refl, sym, ap, subst, ◌∙◌, arith, slice_index, set, get_or-set_other, get_or-set_same, append_assoc}
+use Rattle.std.proofs.Common.{ℕ, zero, suc, ◌+◌, ◌-◌, ◌≤◌, ◌<◌, Bool, true, false, cond, ◌≡◌, inl, inr, List, [], ◌∷◌, ◌++◌, length, drop, min, None, Some, refl, sym, ap, subst, ◌∙◌, arith, slice_index, set, get_or-set_other, get_or-set_same, append_assoc}
 use Rattle.std.specs.Prelude.{slice_get, slice_index_or}
 use Rattle.std.proofs.lemmas.Bool.{cases_lt, cases_eq}
 use Rattle.tau_record.specs.declared.entry.Placed.{Placed}
@@ -89,6 +89,24 @@ passed_set stages firsts j first ss passed at none k i tt' s g h lt = elim (case
     set_long [] j v = refl
     set_long (x ∷ xs) zero v = refl
     set_long (x ∷ xs) (suc j) v = ap suc (set_long xs j v)
+
+-- of one stream the records stand otherwise
+pub reaches_put : (streams : List (List Placed)) (stages : List (List Stage)) (j : ℕ) (ps : List Placed) (ss : List Stage) → slice_get streams j ≡ Some ps → reaches streams (set stages j ss) ≡ set (reaches streams stages) j (reach_by (read_to ps) ps ss)
+reaches_put [] stages j ps ss e = absurd (let bad : None ≡ Some ps = e in cc)
+reaches_put (qs ∷ streams) [] j ps ss e = refl
+reaches_put (qs ∷ streams) (s ∷ stages) zero ps ss e = (let same : qs ≡ ps = cc in ap (λ (l : List Placed). reach_by (read_to l) l ss ∷ reaches streams stages) same)
+reaches_put (qs ∷ streams) (s ∷ stages) (suc j) ps ss e = ap (λ (l : List ℕ). reach_by (read_to qs) qs s ∷ l) (reaches_put streams stages j ps ss e)
+
+set_there : (xs : List (List Stage)) (j : ℕ) (x y : List Stage) → slice_get (set xs j x) j ≡ Some y → set xs j y ≡ set xs j x
+set_there [] j x y e = refl
+set_there (z ∷ xs) zero x y e = (let same : x ≡ y = cc in ap (λ (l : List Stage). l ∷ xs) (sym same))
+set_there (z ∷ xs) (suc j) x y e = ap (λ (l : List (List Stage)). z ∷ l) (set_there xs j x y e)
+
+pub reaches_renewed : (streams : List (List Placed)) (before now : List (List Stage)) (reached : List ℕ) (j at : ℕ) (ps : List Placed) (ss here : List Stage) → now ≡ set before j ss → reached ≡ reaches streams before → slice_get streams j ≡ Some ps → slice_get now j ≡ Some here →
+    at ≡ reach_by (read_to ps) ps here → set reached j at ≡ reaches streams now
+reaches_renewed streams before now reached j at ps ss here now_is is e g at_is =
+    let there : slice_get (set before j ss) j ≡ Some here = ap (λ (l : List (List Stage)). slice_get l j) (sym now_is) ∙ g in
+    ap (set reached j) at_is ∙ ap (λ (l : List ℕ). set l j (reach_by (read_to ps) ps here)) is ∙ sym (reaches_put streams before j ps here e) ∙ ap (reaches streams) (set_there before j ss here there ∙ sym now_is)
 
 -- ---- one record after others
 

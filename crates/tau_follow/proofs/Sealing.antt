@@ -28,7 +28,7 @@ use Rattle.tau_follow_laws.proofs.Order.{applies_is}
 use Rattle.tau_follow_laws.proofs.GoesOn.{front_is, fronts_from, one_more}
 use Rattle.tau_follow_laws.proofs.Follows.{is_good, follower_following}
 use Rattle.tau_follow.specs.declared.reader.Reader.{Reader}
-use Rattle.tau_follow.specs.Reading.{IsRead}
+use Rattle.tau_follow.specs.Reading.{IsGoing, IsRead}
 use Rattle.tau_follow.specs.Feeding.{AreRead}
 use Rattle.tau_follow.specs.Sealing.{short, IsCutAt, IsCutShort, AreLengths}
 use Rattle.tau_follow.specs.declared.state.State.{State}
@@ -75,7 +75,10 @@ only_short BadAnchor e = absurd cc
 only_short BadMask e = absurd cc
 only_short BadBody e = absurd cc
 
-module _ (f : Format) (n : ℕ) (content : List ℕ) (ps : List Placed) (r : Reader) (g : IsRead f n content ps r) where
+module _ (f : Format) (n : ℕ) (content : List ℕ) (ps : List Placed) (r : Reader) (h : IsRead f n content ps r) where
+  g : IsGoing f n content ps r 0
+  g = h.going
+
   content_front : r.rest.items ≡ [] → content ≡ g.front
   content_front none = g.parts ∙ ap (λ (l : List ℕ). g.front ++ drop 0 l) none ∙ append-nil g.front
 

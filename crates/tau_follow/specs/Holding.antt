@@ -1,5 +1,5 @@
 -- What an applier has applied.
-use Rattle.std.specs.Prelude.{ℕ, ◌≡◌, ◌≤◌, ◌<◌, List, length, Ok, Some, slice_get, slice_set}
+use Rattle.std.specs.Prelude.{ℕ, ◌≡◌, ◌≤◌, ◌<◌, ◌++◌, ◌∷◌, [], true, List, length, Ok, Some, slice_get, slice_set}
 use Rattle.std.specs.List.{Contains}
 use Rattle.tau_base.specs.declared.format.Format.{Format}
 use Rattle.tau_record.specs.declared.entry.Placed.{Placed}
@@ -8,12 +8,13 @@ use Rattle.tau_follow_laws.specs.Fed.{fronts_of}
 use Rattle.tau_follow_laws.specs.Following.{Followed, Applies, NoneReady}
 use Rattle.tau_follow.specs.declared.applier.Applier.{Applier}
 use Rattle.tau_epoch.specs.Epochs.{Mark}
+use Rattle.tau_follow.specs.declared.spot.Spot.{Spot}
 use Rattle.tau_follow.specs.declared.stage.Stage.{Stage}
-use Rattle.tau_follow.specs.Applying.{stages_from, AreSpots, ArePassed}
+use Rattle.tau_follow.specs.Applying.{is_ready_in, reaches, stages_from, AreSpots, ArePassed}
 use Rattle.tau_follow.specs.Judging.{with_judged}
 use Rattle.tau_follow.specs.declared.waits.Waits.{Waits}
 use Rattle.tau_follow.specs.Queue.{spot_at}
-use Rattle.tau_follow.specs.Waits.{AreKept, IsMore}
+use Rattle.tau_follow.specs.Waits.{AreAllAbove, AreFound, AreKept, IsMore}
 
 -- where the records of a follower stand, and which of them wait
 pub record AreStaged (s : Followed) (stages : List (List Stage)) (firsts : List ℕ) (waits : Waits) : Type 0 where
@@ -51,3 +52,21 @@ pub record HasReadOn (known : List Mark) (k : ℕ) (records : List Placed) (j : 
   pub passed : ArePassed old.stages.items old.firsts.items → ArePassed new.stages.items new.firsts.items
   pub more : IsMore old.waits new.waits
   pub looked : (i : ℕ) → length stood ≤ i → i < length records → Contains new.waits.looked.items (spot_at j i)
+
+-- these are how far the streams are followed, and each open record is one to look at, or waits for more than that
+pub record IsKnown (streams : List (List Placed)) (a : Applier) (reached : List ℕ) : Type 0 where
+  pub reached_is : reached ≡ reaches streams a.stages.items
+  pub found : AreFound streams a.stages.items a.waits.looked.items a.waits.queues.items
+  pub above : AreAllAbove reached a.waits.queues.items
+
+-- the same but for one record, which is ready, where these are applied
+pub record IsReadyAt (streams : List (List Placed)) (s : Followed) (a : Applier) (reached : List ℕ) (spot : Spot) : Type 0 where
+  pub was : Applier
+  pub applied : HasApplied streams s was
+  pub stages : a.stages ≡ was.stages
+  pub order : a.order ≡ was.order
+  pub firsts : a.firsts ≡ was.firsts
+  pub reached_is : reached ≡ reaches streams a.stages.items
+  pub ready : is_ready_in reached streams a.stages.items spot.stream spot.index ≡ true
+  pub found : AreFound streams a.stages.items (a.waits.looked.items ++ spot ∷ []) a.waits.queues.items
+  pub above : AreAllAbove reached a.waits.queues.items

@@ -1,5 +1,5 @@
 -- What a reader has read of a stream.
-use Rattle.std.specs.Prelude.{ℕ, ◌≡◌, ◌≤◌, ◌⊎◌, ◌==◌, ◌+◌, ◌-◌, ◌&&◌, Bool, true, false, nat_lt, List, [], ◌∷◌, ◌++◌, length, take, drop, slice_get, Some, None, Result, Ok, Err, if◌then◌else◌}
+use Rattle.std.specs.Prelude.{ℕ, ◌≡◌, ◌≤◌, ◌<◌, ◌⊎◌, ◌==◌, ◌+◌, ◌-◌, Bool, nat_lt, List, [], ◌∷◌, ◌++◌, length, take, drop, slice_get, Some, None, Result, Ok, Err, if◌then◌else◌}
 use Rattle.std.specs.Int.{w32, from_be_bytes}
 use Rattle.tau_record.specs.declared.entry.Entry.{Entry}
 use Rattle.tau_record.specs.declared.entry.Placed.{Placed}
@@ -25,9 +25,15 @@ pub record IsGoing (f : Format) (n : ℕ) (content : List ℕ) (ps : List Placed
   pub declarations : r.declarations ≡ declared_by (catalogue_of ps)
   pub within : from ≤ length r.rest.items
 
--- the same between two feeds: all of its bytes are left
-abbrev pub IsRead : Format → ℕ → List ℕ → List Placed → Reader → Type 0
-IsRead f n content ps r = IsGoing f n content ps r 0
+-- how many bytes more the record at the front of these bytes asks for at least, as its kind and length say
+abbrev pub lacking : Bool → List ℕ → ℕ
+lacking first [] = 0
+lacking first (kind ∷ bytes) = if kind_fits first kind then (if nat_lt (length bytes) 4 then 4 - length bytes else from_be_bytes w32 (take 4 bytes) - (length (drop 4 bytes) + 5)) else 0
+
+-- the same between two feeds: all of its bytes are left, and no more is known to be lacking than lacks
+pub record IsRead (f : Format) (n : ℕ) (content : List ℕ) (ps : List Placed) (r : Reader) : Type 0 where
+  pub going : IsGoing f n content ps r 0
+  pub wants : r.lacks ≤ lacking (r.at == 0) r.rest.items
 
 -- what the bytes of the reader from this index on are, as its next record
 abbrev pub next_at : Format → ℕ → Reader → ℕ → Result (Entry × List ℕ) RecordCause
@@ -56,11 +62,6 @@ pub record IsMark (r : Reader) (ps : List Placed) (m : Mark) : Type 0 where
   pub last : m.last ≡ r.last
   pub records : m.records ≡ length ps
 
--- whether the length of the record at the front of these bytes is there, and asks for more than so many bytes more
-abbrev pub is_cut : Bool → List ℕ → ℕ → Bool
-is_cut first [] more = false
-is_cut first (kind ∷ bytes) more = kind_fits first kind && (if nat_lt (length bytes) 4 then false else nat_lt more (from_be_bytes w32 (take 4 bytes) - (length (drop 4 bytes) + 5)))
-
--- the same of the bytes of a stream that are left
+-- the next record of a stream is known not to be whole by so many bytes more
 abbrev pub IsShortBy : List Reader → ℕ → ℕ → Type 0
-IsShortBy readers j more = (r : Reader) → slice_get readers j ≡ Some r → is_cut (r.at == 0) r.rest.items more ≡ true
+IsShortBy readers j more = (r : Reader) → slice_get readers j ≡ Some r → more < r.lacks

@@ -5,14 +5,14 @@ ghost use Rattle.tau_follow_laws.specs.Following.{Followed};
 ghost use Rattle.tau_follow.specs.declared.stage.Stage.{Stage as OneStage};
 ghost use Rattle.tau_follow.specs.declared.stage.Stage.TheVariants.{Applied, Open};
 ghost use Rattle.tau_follow.specs.declared.spot.Spot.{Spot as OneSpot};
-ghost use Rattle.tau_follow.specs.Applying.{set_stage, open_all, stages_from, ArePassed, IsWithin, AreZero};
-ghost use Rattle.tau_follow.specs.Holding.{HasApplied, HasFollowed, HasReadOn};
-ghost use Rattle.tau_follow.specs.Waits.{AreKept};
+ghost use Rattle.tau_follow.specs.Applying.{set_stage, open_all, reaches, stages_from, ArePassed, IsWithin, AreZero};
+ghost use Rattle.tau_follow.specs.Holding.{HasApplied, HasFollowed, HasReadOn, IsKnown, IsReadyAt};
+ghost use Rattle.tau_follow.specs.Waits.{AreAllAbove, AreFound, AreKept};
 ghost use Rattle.tau_follow.specs.Judging.{with_judged};
 ghost use Rattle.tau_follow.specs.Reading.{BeginsWith};
 
 use crate::judge::extend_judged;
-use crate::reach::reaches;
+use crate::reach::{reaches, renew_reach};
 use crate::spot::Spot;
 use crate::stage::{Stage, Stages};
 use crate::waits::Waits;
@@ -163,44 +163,129 @@ impl Applier {
         }
     }
 
-    /// Applies a record that is ready, if there is one, and returns where it stands.
-    fn step(&mut self, alloc: Global, streams: &[Listed<Placed>]) -> Result<Option<Spot>, NoMemory>
+    /// Knows how far a stream is followed, once one of its records is applied, and what is to be looked at then.
+    fn pass(
+        &mut self,
+        streams: &[Listed<Placed>],
+        reached: &mut Vec<u64>,
+        j: usize,
+    ) -> Result<(), NoMemory>
         ensures applied { (s : Followed) → HasApplied streams.now s self.old → HasApplied streams.now s self.new }
-        ensures through { (s : Followed) → HasApplied streams.now s self.old → IfOk result (λ found. IsNone found → HasFollowed streams.now s self.new) }
+        ensures known { (s : Followed) (before : List (List OneStage)) (ss : List OneStage) → HasApplied streams.now s self.old → self.old.stages.items ≡ slice_set before j ss → reached.old.items ≡ reaches streams.now before →
+            AreFound streams.now self.old.stages.items self.old.waits.looked.items self.old.waits.queues.items → AreAllAbove reached.old.items self.old.waits.queues.items → OnOk result (IsKnown streams.now self.new reached.new.items) }
+        ensures stages { self.new.stages ≡ self.old.stages }
+        ensures order { self.new.order ≡ self.old.order }
+    {
+        let Ok(at) = renew_reach(
+            streams,
+            self.stages.as_slice(),
+            &mut self.firsts,
+            reached,
+            j,
+        ) else {
+            return Err(NoMemory);
+        };
+        match self.waits.pass(j, at) {
+            Ok(()) => Ok(()),
+            Err(e) => {
+                self.waits.lose();
+                Err(e)
+            }
+        }
+    }
+
+    /// Applies the record at a spot, which is ready and does not wait, and knows then how far its stream is followed.
+    fn apply_on(
+        &mut self,
+        streams: &[Listed<Placed>],
+        reached: &mut Vec<u64>,
+        spot: Spot,
+    ) -> Result<(), NoMemory>
+        ensures applied { (s : Followed) → IsReadyAt streams.now s self.old reached.old.items spot → HasApplied streams.now s self.new }
+        ensures known { (s : Followed) → IsReadyAt streams.now s self.old reached.old.items spot → OnOk result (IsKnown streams.now self.new reached.new.items) }
+        ensures stages { OnOk result (self.new.stages.items ≡ set_stage self.old.stages.items spot.stream spot.index Applied) }
+        ensures order { BeginsWith self.old.order.items self.new.order.items }
+    {
+        match self.apply(spot) {
+            Ok(()) => {}
+            Err(e) => {
+                self.waits.lose();
+                return Err(e);
+            }
+        }
+        match self.pass(streams, reached, spot.stream) {
+            Ok(()) => Ok(()),
+            Err(e) => Err(e),
+        }
+    }
+
+    /// Applies a record that is ready, if there is one, and returns where it stands.
+    fn step(
+        &mut self,
+        streams: &[Listed<Placed>],
+        reached: &mut Vec<u64>,
+    ) -> Result<Option<Spot>, NoMemory>
+        ensures applied { (s : Followed) → HasApplied streams.now s self.old → IsKnown streams.now self.old reached.old.items → HasApplied streams.now s self.new }
+        ensures known { (s : Followed) → HasApplied streams.now s self.old → IsKnown streams.now self.old reached.old.items → IfOk result (λ found. IfSome found (λ _. IsKnown streams.now self.new reached.new.items)) }
+        ensures through { (s : Followed) → HasApplied streams.now s self.old → IsKnown streams.now self.old reached.old.items → IfOk result (λ found. IsNone found → HasFollowed streams.now s self.new) }
         ensures fewer { IfOk result (λ found. IfSome found (λ _. open_all self.new.stages.items < open_all self.old.stages.items)) }
         ensures order { BeginsWith self.old.order.items self.new.order.items }
     {
-        let Ok(reached) = reaches(alloc, streams, self.stages.as_slice(), &mut self.firsts) else {
-            return Err(NoMemory);
-        };
         match self
             .waits
-            .next(alloc, streams, self.stages.as_slice(), reached.as_slice())
+            .find(streams, self.stages.as_slice(), reached.as_slice())
         {
-            Err(e) => Err(e),
+            Err(e) => {
+                self.waits.lose();
+                Err(e)
+            }
             Ok(None) => Ok(None),
-            Ok(Some(spot)) => match self.apply(spot) {
+            Ok(Some(spot)) => match self.apply_on(streams, reached, spot) {
                 Ok(()) => Ok(Some(spot)),
-                Err(e) => {
-                    self.waits.lose();
-                    Err(e)
-                }
+                Err(e) => Err(e),
             },
         }
     }
 
     /// Applies what is ready, one record after another, until nothing is.
+    fn follow_known(
+        &mut self,
+        streams: &[Listed<Placed>],
+        reached: &mut Vec<u64>,
+    ) -> Result<(), NoMemory>
+        ensures ok { (s : Followed) → HasApplied streams.now s self.old → IsKnown streams.now self.old reached.old.items → OnOk result (HasFollowed streams.now s self.new) }
+        ensures applied { (s : Followed) → HasApplied streams.now s self.old → IsKnown streams.now self.old reached.old.items → HasApplied streams.now s self.new }
+        ensures order { BeginsWith self.old.order.items self.new.order.items }
+    {
+        'steps: loop {
+            match self.step(streams, reached) {
+                Ok(Some(_)) => {}
+                Ok(None) => return Ok(()),
+                Err(e) => return Err(e),
+            }
+        }
+    }
+
+    /// Looks how far the streams are followed, and applies what is ready until nothing is.
     pub fn follow(&mut self, alloc: Global, streams: &[Listed<Placed>]) -> Result<(), NoMemory>
         ensures ok { (s : Followed) → HasApplied streams.now s self.old → OnOk result (HasFollowed streams.now s self.new) }
         ensures applied { (s : Followed) → HasApplied streams.now s self.old → HasApplied streams.now s self.new }
         ensures order { BeginsWith self.old.order.items self.new.order.items }
     {
-        'steps: loop {
-            match self.step(alloc, streams) {
-                Ok(Some(_)) => {}
-                Ok(None) => return Ok(()),
-                Err(e) => return Err(e),
-            }
+        let Ok(mut reached) = reaches(alloc, streams, self.stages.as_slice(), &mut self.firsts)
+        else {
+            return Err(NoMemory);
+        };
+        match self
+            .waits
+            .know(alloc, self.stages.as_slice(), reached.as_slice())
+        {
+            Ok(()) => {}
+            Err(e) => return Err(e),
+        }
+        match self.follow_known(streams, &mut reached) {
+            Ok(()) => Ok(()),
+            Err(e) => Err(e),
         }
     }
 

@@ -5,7 +5,7 @@ ghost use Rattle.tau_scan.specs.declared.fault.LogFault.{LogFault};
 ghost use Rattle.tau_scan.specs.declared.fault.LogRefusal.TheVariants as refusals;
 ghost use Rattle.tau_follow_laws.specs.Fed.{fronts_of};
 ghost use Rattle.tau_follow_laws.specs.Feeding.{Piece, with_piece};
-ghost use Rattle.tau_follow.specs.Reading.{IsRead, is_cut, IsShortBy};
+ghost use Rattle.tau_follow.specs.Reading.{IsShortBy};
 ghost use Rattle.tau_follow.specs.Applying.{is_call, ArePassed};
 ghost use Rattle.tau_follow.specs.Feeding.{AreRead, AreLonger, IsMarkAt, AreCalls, AreCallsAt};
 ghost use Rattle.tau_follow.specs.Holding.{HasReadOn};
@@ -54,7 +54,7 @@ pub fn read_stream(
     }
 }
 
-/// Whether the next record of a stream is not whole by so many bytes more, as its length says.
+/// Whether the next record of a stream is known not to be whole by so many bytes more.
 pub fn is_short_by(readers: &[Reader], stream: u8, more: usize) -> bool
     ensures { result ≡ true → IsShortBy readers.now stream more }
 {
@@ -64,7 +64,31 @@ pub fn is_short_by(readers: &[Reader], stream: u8, more: usize) -> bool
     }
 }
 
-/// Feeds bytes to a stream by which its next record is not whole.
+/// Whether by so many bytes more no more than the kind and the length of the next record of a stream are there.
+pub fn is_head_by(readers: &[Reader], stream: u8, more: usize) -> bool {
+    match readers.get(stream as usize) {
+        None => false,
+        Some(reader) => reader.is_head_by(more),
+    }
+}
+
+/// Feeds bytes to a stream if its next record is not whole by them, as its kind and length say, and returns whether it is so.
+pub fn wait_head(readers: &mut Vec<Reader>, stream: u8, bytes: &[u8]) -> Result<bool, NoMemory>
+    ensures short { (format : Format) (n : ℕ) (fed : List (List ℕ)) (streams : List (List OnePlaced)) → stream < n → AreRead format n fed streams readers.old.items → IfOk result (λ short. short ≡ true → AreRead format n (with_piece fed (record { stream = stream; bytes = bytes.now })) streams readers.new.items) }
+    ensures same { (format : Format) (n : ℕ) (fed : List (List ℕ)) (streams : List (List OnePlaced)) → stream < n → AreRead format n fed streams readers.old.items → IfOk result (λ short. short ≡ false → AreRead format n fed streams readers.new.items) }
+    ensures err { (format : Format) (n : ℕ) (fed : List (List ℕ)) (streams : List (List OnePlaced)) → stream < n → AreRead format n fed streams readers.old.items → OnErr result (AreRead format n fed streams readers.new.items) }
+{
+    let j = stream as usize;
+    if j >= readers.len() {
+        return Err(NoMemory);
+    }
+    match readers[j].wait_head(bytes) {
+        Ok(short) => Ok(short),
+        Err(e) => Err(e),
+    }
+}
+
+/// Feeds bytes to a stream by which its next record is known not to be whole.
 pub fn wait_stream(readers: &mut Vec<Reader>, stream: u8, bytes: &[u8]) -> Result<(), NoMemory>
     ensures ok { (format : Format) (n : ℕ) (fed : List (List ℕ)) (streams : List (List OnePlaced)) → stream < n → AreRead format n fed streams readers.old.items → IsShortBy readers.old.items stream (length bytes.now) → OnOk result (AreRead format n (with_piece fed (record { stream = stream; bytes = bytes.now })) streams readers.new.items) }
     ensures err { (format : Format) (n : ℕ) (fed : List (List ℕ)) (streams : List (List OnePlaced)) → stream < n → AreRead format n fed streams readers.old.items → OnErr result (AreRead format n fed streams readers.new.items) }

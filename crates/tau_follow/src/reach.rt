@@ -106,3 +106,30 @@ pub fn reaches(
     }
     Ok(list)
 }
+
+/// Has the number of a stream be how far it is followed now, and returns it. The numbers told so when only this stream stood
+/// otherwise.
+pub fn renew_reach(
+    streams: &[Listed<Placed>],
+    stages: &[Stages],
+    firsts: &mut Vec<usize>,
+    reached: &mut Vec<u64>,
+    j: usize,
+) -> Result<u64, NoMemory>
+    ensures reached { (before : List (List OneStage)) (ss : List OneStage) → ArePassed stages.now firsts.old.items → stages.now ≡ slice_set before j ss → reached.old.items ≡ reaches streams.now before → OnOk result (reached.new.items ≡ reaches streams.now stages.now) }
+    ensures at { IfOk result (λ at. (reached.new.items ≡ slice_set reached.old.items j at) × (j < length reached.old.items)) }
+    ensures passed { ArePassed stages.now firsts.old.items → ArePassed stages.now firsts.new.items }
+{
+    let Some(reach) = reach_at(streams, stages, firsts.as_slice(), j) else {
+        return Err(NoMemory);
+    };
+    if j >= firsts.len() {
+        return Err(NoMemory);
+    }
+    if j >= reached.len() {
+        return Err(NoMemory);
+    }
+    firsts[j] = reach.first;
+    reached[j] = reach.at;
+    Ok(reach.at)
+}

@@ -9,7 +9,7 @@ ghost use Rattle.tau_record.specs.declared.fault.RecordFault.{RecordFault};
 ghost use Rattle.tau_record.specs.declared.fault.RecordRefusal.TheVariants as refusals;
 ghost use Rattle.tau_scan.specs.Reading.{is_declared, declared_by, catalogue_of, text_of};
 ghost use Rattle.tau_follow_laws.specs.Fed.{is_short, front_of};
-ghost use Rattle.tau_follow.specs.Reading.{IsGoing, IsRead, BeginsWith, IsLonger, IsMark, next_at, IsStopped, is_cut};
+ghost use Rattle.tau_follow.specs.Reading.{IsGoing, IsRead, BeginsWith, IsLonger, IsMark, next_at, IsStopped, lacking};
 
 use arrayvec::ArrayVec;
 use std::alloc::Global;
@@ -19,11 +19,16 @@ use tau_record::{Entry, Placed, RecordCause, RecordFault, RecordRefusal, decode_
 use tau_scan::{declarations_in, is_declared, none_declared};
 use tau_text::Declarations;
 
+/// The kind and the length of a record take so many bytes.
+const HEAD: usize = 5;
+
 /// What is known of a stream behind the records that are read.
 #[derive(Drop)]
 pub struct Reader {
     /// The bytes after them: the beginning of the next record.
     pub rest: Vec<u8>,
+    /// By fewer bytes than this more that record is not whole. It is 0 if that is not known.
+    pub lacks: usize,
     /// Where these bytes start.
     pub at: u64,
     /// The zero vector and those of the anchors.
@@ -202,6 +207,10 @@ fn keep_from(alloc: Global, rest: &mut Vec<u8>, from: usize) -> Result<(), NoMem
     if from == 0 {
         return Ok(());
     }
+    if from == rest.len() {
+        rest.clear();
+        return Ok(());
+    }
     let kept = Vec::from_slice(alloc, &rest[from..])?;
     *rest = kept;
     Ok(())
@@ -222,22 +231,23 @@ fn is_kind(first: bool, kind: u8) -> bool
     }
 }
 
-/// Whether the length of the record at the front of these bytes is there, and asks for more than so many bytes more.
-fn is_cut(first: bool, bytes: &[u8], more: usize) -> bool
-    ensures { result ≡ is_cut first bytes.now more }
+/// How many bytes more the record at the front of these bytes asks for at least, as its kind and length say; 0 if it is not
+/// known.
+fn lacking(first: bool, bytes: &[u8]) -> usize
+    ensures { result ≡ lacking first bytes.now }
 {
     match bytes {
-        [] => false,
+        [] => 0,
         [kind, rest @ ..] => {
             if !is_kind(first, *kind) {
-                return false;
+                return 0;
             }
             if rest.len() < 4 {
-                return false;
+                return 4 - rest.len();
             }
             let (head, left) = rest.split_at(4);
             let total = u32::from_be_bytes([head[0], head[1], head[2], head[3]]) as usize;
-            more < total.saturating_sub(left.len() + 5)
+            total.saturating_sub(left.len() + 5)
         }
     }
 }
@@ -253,6 +263,7 @@ impl Reader {
         vectors.push(Lv::zero(n as usize))?;
         Ok(Reader {
             rest: Vec::new(alloc),
+            lacks: 0,
             at: 0,
             vectors,
             last: 0,
@@ -320,6 +331,7 @@ impl Reader {
         ensures past { IfOk result (λ past. past ≡ from + next.long) }
         ensures longer { IsLonger self.old self.new records.old records.new }
         ensures rest { self.new.rest ≡ self.old.rest }
+        ensures lacks { self.new.lacks ≡ self.old.lacks }
     {
         match declare(alloc, &mut self.declarations, self.at, &next.entry) {
             Ok(()) => {}
@@ -367,6 +379,7 @@ impl Reader {
         ensures further { IfOk result (λ next. IfSome next (λ past. (from < past) × (past ≤ length self.new.rest.items))) }
         ensures longer { IsLonger self.old self.new records.old records.new }
         ensures rest { self.new.rest ≡ self.old.rest }
+        ensures lacks { self.new.lacks ≡ self.old.lacks }
     {
         match self.next(alloc, format, n, from) {
             Err(e) => Err(e),
@@ -388,11 +401,12 @@ impl Reader {
     ) -> Result<usize, RecordRefusal>
         requires low { 1 ≤ n }
         requires high { n ≤ most_streams format }
-        ensures ok { (content : List ℕ) → IsRead format n content records.old self.old → IfOk result (λ past. IsGoing format n content records.new self.new past × (front_of format n content ≡ Ok records.new)) }
-        ensures bad { (content : List ℕ) (fault : RecordFault) → IsRead format n content records.old self.old → result ≡ Err (refusals.Bad fault) → front_of format n content ≡ Err fault }
+        ensures ok { (content : List ℕ) → IsGoing format n content records.old self.old 0 → IfOk result (λ past. IsGoing format n content records.new self.new past × (front_of format n content ≡ Ok records.new)) }
+        ensures bad { (content : List ℕ) (fault : RecordFault) → IsGoing format n content records.old self.old 0 → result ≡ Err (refusals.Bad fault) → front_of format n content ≡ Err fault }
         ensures within { IfOk result (λ past. past ≤ length self.new.rest.items) }
         ensures longer { IsLonger self.old self.new records.old records.new }
         ensures rest { self.new.rest ≡ self.old.rest }
+        ensures lacks { self.new.lacks ≡ self.old.lacks }
     {
         let mut from = 0;
         'records: loop {
@@ -419,6 +433,7 @@ impl Reader {
         ensures bad { (content : List ℕ) (fault : RecordFault) → IsRead format n content records.old self.old → result ≡ Err (refusals.Bad fault) → front_of format n (content ++ bytes.now) ≡ Err fault }
         ensures longer { IsLonger self.old self.new records.old records.new }
     {
+        self.lacks = 0;
         match extend(&mut self.rest, bytes) {
             Ok(()) => {}
             Err(_) => return Err(RecordRefusal::NoMemory),
@@ -427,27 +442,59 @@ impl Reader {
             Err(e) => Err(e),
             Ok(past) => match keep_from(alloc, &mut self.rest, past) {
                 Err(_) => Err(RecordRefusal::NoMemory),
-                Ok(()) => Ok(()),
+                Ok(()) => {
+                    self.lacks = lacking(self.at == 0, self.rest.as_slice());
+                    Ok(())
+                }
             },
         }
     }
 
-    /// Whether its next record is not whole by so many bytes more, as its length says.
+    /// Whether its next record is known not to be whole by so many bytes more.
     pub fn is_short_by(&self, more: usize) -> bool
-        ensures { result ≡ is_cut (self.now.at == 0) self.now.rest.items more }
+        ensures { result ≡ true → more < self.now.lacks }
     {
-        is_cut(self.at == 0, self.rest.as_slice(), more)
+        more < self.lacks
     }
 
-    /// Puts these bytes after those that are there, if the record is not whole by them.
+    /// Whether by so many bytes more no more than the kind and the length of its next record are there.
+    pub fn is_head_by(&self, more: usize) -> bool {
+        more <= HEAD && self.rest.len() <= HEAD - more
+    }
+
+    /// Puts these bytes after those that are there, if the record is known not to be whole by them.
     pub fn wait(&mut self, bytes: &[u8]) -> Result<(), NoMemory>
-        ensures ok { (f : Format) (n : ℕ) (content : List ℕ) (ps : List Placed) → IsRead f n content ps self.old → is_cut (self.old.at == 0) self.old.rest.items (length bytes.now) ≡ true → OnOk result (IsRead f n (content ++ bytes.now) ps self.new × (front_of f n (content ++ bytes.now) ≡ Ok ps)) }
+        ensures ok { (f : Format) (n : ℕ) (content : List ℕ) (ps : List Placed) → IsRead f n content ps self.old → length bytes.now < self.old.lacks → OnOk result (IsRead f n (content ++ bytes.now) ps self.new × (front_of f n (content ++ bytes.now) ≡ Ok ps)) }
         ensures err { (f : Format) (n : ℕ) (content : List ℕ) (ps : List Placed) → IsRead f n content ps self.old → OnErr result (IsRead f n content ps self.new) }
     {
         match extend(&mut self.rest, bytes) {
-            Ok(()) => Ok(()),
+            Ok(()) => {
+                self.lacks = self.lacks.saturating_sub(bytes.len());
+                Ok(())
+            }
             Err(e) => Err(e),
         }
+    }
+
+    /// Puts these bytes after those that are there if the record is not whole by them, as its kind and length say, and returns
+    /// whether it is so.
+    pub fn wait_head(&mut self, bytes: &[u8]) -> Result<bool, NoMemory>
+        ensures short { (f : Format) (n : ℕ) (content : List ℕ) (ps : List Placed) → IsRead f n content ps self.old → IfOk result (λ short. short ≡ true → IsRead f n (content ++ bytes.now) ps self.new × (front_of f n (content ++ bytes.now) ≡ Ok ps)) }
+        ensures same { (f : Format) (n : ℕ) (content : List ℕ) (ps : List Placed) → IsRead f n content ps self.old → IfOk result (λ short. short ≡ false → IsRead f n content ps self.new) }
+        ensures err { (f : Format) (n : ℕ) (content : List ℕ) (ps : List Placed) → IsRead f n content ps self.old → OnErr result (IsRead f n content ps self.new) }
+    {
+        let long = self.rest.len();
+        match extend(&mut self.rest, bytes) {
+            Ok(()) => {}
+            Err(e) => return Err(e),
+        }
+        let lacks = lacking(self.at == 0, self.rest.as_slice());
+        if lacks > 0 {
+            self.lacks = lacks;
+            return Ok(true);
+        }
+        self.rest.truncate(long);
+        Ok(false)
     }
 
     /// How the reader is, with these records read.
@@ -479,6 +526,7 @@ impl Reader {
         truncate(alloc, records, count);
         self.vectors.truncate(vectors);
         self.rest = rest;
+        self.lacks = 0;
         self.last = last;
         self.at = at;
         if at == 0 {

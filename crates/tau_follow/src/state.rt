@@ -23,8 +23,8 @@ ghost use Rattle.tau_follow.specs.State.{IsAt, Stands, HasRead, HasRedone, IsSam
 use crate::applier::Applier;
 use crate::check::{checked, declared};
 use crate::feed::{
-    are_calls_at, is_more, is_short_by, mark_stream, read_calls, read_count, read_stream,
-    undo_stream, wait_stream,
+    are_calls_at, is_head_by, is_more, is_short_by, mark_stream, read_calls, read_count,
+    read_stream, undo_stream, wait_head, wait_stream,
 };
 use crate::judge::judged_from;
 use crate::reader::{Mark, Reader};
@@ -357,6 +357,20 @@ impl State {
         }
     }
 
+    /// Feeds bytes to a stream if its next record is not whole by them, as its kind and length say, and returns whether it is
+    /// so.
+    fn wait_head(&mut self, stream: u8, bytes: &[u8]) -> Result<bool, NoMemory>
+        ensures short { (format : Format) (n : ℕ) (fed : List (List ℕ)) (s : Followed) → stream < n → IsAt format n fed s self.old → IfOk result (λ short. short ≡ true → (t : Followed) × HasFed format (with_piece fed (record { stream = stream; bytes = bytes.now })) s t × IsAt format n (with_piece fed (record { stream = stream; bytes = bytes.now })) t self.new) }
+        ensures same { (format : Format) (n : ℕ) (fed : List (List ℕ)) (s : Followed) → stream < n → IsAt format n fed s self.old → IfOk result (λ short. short ≡ false → IsAt format n fed s self.new) }
+        ensures err { (format : Format) (n : ℕ) (fed : List (List ℕ)) (s : Followed) → stream < n → IsAt format n fed s self.old → OnErr result (IsAt format n fed s self.new) }
+        ensures tables { self.new.tables ≡ self.old.tables }
+    {
+        match wait_head(&mut self.readers, stream, bytes) {
+            Ok(short) => Ok(short),
+            Err(e) => Err(e),
+        }
+    }
+
     /// Feeds bytes to a stream by which its next record may be whole.
     fn feed_on(
         &mut self,
@@ -410,6 +424,33 @@ impl State {
         }
     }
 
+    /// Feeds bytes to a stream by which its next record is not known to be cut short.
+    fn feed_more(
+        &mut self,
+        alloc: Global,
+        format: Format,
+        n: u16,
+        stream: u8,
+        bytes: &[u8],
+    ) -> Result<(), LogRefusal>
+        requires low { 1 ≤ n }
+        requires high { n ≤ most_streams format }
+        requires stream { stream < n }
+        ensures ok { (fed : List (List ℕ)) (s : Followed) → IsAt format n fed s self.old → OnOk result ((t : Followed) × HasFed format (with_piece fed (record { stream = stream; bytes = bytes.now })) s t × IsAt format n (with_piece fed (record { stream = stream; bytes = bytes.now })) t self.new) }
+        ensures bad { (fed : List (List ℕ)) (s : Followed) (fault : OneFault) → IsAt format n fed s self.old → result ≡ Err (refusals.Bad fault) → read_now format (with_piece fed (record { stream = stream; bytes = bytes.now })) s.order ≡ Err fault }
+        ensures no_memory { (fed : List (List ℕ)) (s : Followed) → IsAt format n fed s self.old → result ≡ Err refusals.NoMemory → IsAt format n fed s self.new }
+        ensures tables { OnErr result (self.new.tables ≡ self.old.tables) }
+    {
+        match self.wait_head(stream, bytes) {
+            Ok(true) => Ok(()),
+            Ok(false) => match self.feed_on(alloc, format, n, stream, bytes) {
+                Ok(()) => Ok(()),
+                Err(e) => Err(e),
+            },
+            Err(_) => Err(LogRefusal::NoMemory),
+        }
+    }
+
     /// Feeds bytes to a stream: reads, judges, and applies what is ready until nothing is.
     pub fn feed(
         &mut self,
@@ -431,6 +472,12 @@ impl State {
             return match self.wait(stream, bytes) {
                 Ok(()) => Ok(()),
                 Err(_) => Err(LogRefusal::NoMemory),
+            };
+        }
+        if is_head_by(self.readers.as_slice(), stream, bytes.len()) {
+            return match self.feed_more(alloc, format, n, stream, bytes) {
+                Ok(()) => Ok(()),
+                Err(e) => Err(e),
             };
         }
         match self.feed_on(alloc, format, n, stream, bytes) {

@@ -1,5 +1,5 @@
 //! Which open records are ready, found without passing over those that wait.
-ghost use Rattle.std.specs.Prelude.{◌≡◌, ◌≤◌, ◌<◌, ◌++◌, ◌∷◌, [], true, false, ℕ, List, Some, length, slice_get, slice_set, slice_index, IfOk, IfSome, IsNone, OnOk, OnErr};
+ghost use Rattle.std.specs.Prelude.{◌≡◌, ◌≢◌, ◌≤◌, ◌<◌, ◌++◌, ◌∷◌, [], true, false, ℕ, List, Some, length, slice_get, slice_set, slice_index, IfOk, IfSome, IsNone, OnOk, OnErr};
 ghost use Rattle.std.specs.List.{Contains};
 ghost use Rattle.tau_base.specs.Vectors.{covers};
 ghost use Rattle.tau_record.specs.declared.entry.Placed.{Placed as OnePlaced};
@@ -216,8 +216,8 @@ impl Waits {
         Ok(())
     }
 
-    /// Looks at records until one is ready.
-    fn find(
+    /// Looks at records until one is ready, where the streams are followed so far. It is not among those that wait then.
+    pub fn find(
         &mut self,
         streams: &[Listed<Placed>],
         stages: &[Stages],
@@ -226,7 +226,7 @@ impl Waits {
         ensures ready { IfOk result (λ found. IfSome found (λ spot. is_ready_in reached.now streams.now stages.now spot.stream spot.index ≡ true)) }
         ensures found { AreFound streams.now stages.now self.old.looked.items self.old.queues.items → IfOk result (λ found. IfSome found (λ spot. AreFound streams.now stages.now (self.new.looked.items ++ spot ∷ []) self.new.queues.items)) }
         ensures none { AreFound streams.now stages.now self.old.looked.items self.old.queues.items → AreAllAbove reached.now self.old.queues.items → IfOk result (λ found. IsNone found → AreFound streams.now stages.now [] self.new.queues.items × AreAllAbove reached.now self.new.queues.items) }
-        ensures same { self.new.lost ≡ self.old.lost }
+        ensures above { AreAllAbove reached.now self.old.queues.items → IfOk result (λ _. AreAllAbove reached.now self.new.queues.items) }
     {
         'looks: loop {
             match self.looked.pop() {
@@ -245,52 +245,58 @@ impl Waits {
         }
     }
 
-    /// Looks for a ready record, once the streams are followed so far.
-    fn seek(
+    /// Knows all open records, and has those be looked at that wait for no more than how far the streams are followed.
+    fn know_all(
         &mut self,
         alloc: Global,
-        streams: &[Listed<Placed>],
         stages: &[Stages],
         reached: &[u64],
-    ) -> Result<Option<Spot>, NoMemory>
-        ensures ready { IfOk result (λ found. IfSome found (λ spot. is_ready_in reached.now streams.now stages.now spot.stream spot.index ≡ true)) }
-        ensures found { AreKept streams.now stages.now self.old → IfOk result (λ found. IfSome found (λ spot. AreFound streams.now stages.now (self.new.looked.items ++ spot ∷ []) self.new.queues.items)) }
-        ensures none { AreKept streams.now stages.now self.old → IfOk result (λ found. IsNone found → AreFound streams.now stages.now [] self.new.queues.items × AreAllAbove reached.now self.new.queues.items) }
+    ) -> Result<(), NoMemory>
+        ensures found { (streams : List (List OnePlaced)) → AreKept streams stages.now self.old → OnOk result (AreFound streams stages.now self.new.looked.items self.new.queues.items) }
+        ensures above { OnOk result (AreAllAbove reached.now self.new.queues.items) }
     {
         match self.begin(alloc, stages) {
             Ok(()) => {}
             Err(e) => return Err(e),
         }
         match drain_all(&mut self.looked, &mut self.queues, reached) {
-            Ok(()) => {}
-            Err(e) => return Err(e),
-        }
-        match self.find(streams, stages, reached) {
-            Ok(found) => Ok(found),
+            Ok(()) => Ok(()),
             Err(e) => Err(e),
         }
     }
 
-    /// A ready record, if there is one, once the streams are followed so far. It is not among those that wait then. Out of
-    /// memory all open records are looked at anew the next time.
-    pub fn next(
+    /// The same. Out of memory all open records are looked at anew the next time.
+    pub fn know(
         &mut self,
         alloc: Global,
-        streams: &[Listed<Placed>],
         stages: &[Stages],
         reached: &[u64],
-    ) -> Result<Option<Spot>, NoMemory>
-        ensures ready { IfOk result (λ found. IfSome found (λ spot. is_ready_in reached.now streams.now stages.now spot.stream spot.index ≡ true)) }
-        ensures found { AreKept streams.now stages.now self.old → IfOk result (λ found. IfSome found (λ spot. AreFound streams.now stages.now (self.new.looked.items ++ spot ∷ []) self.new.queues.items)) }
-        ensures none { AreKept streams.now stages.now self.old → IfOk result (λ found. IsNone found → AreFound streams.now stages.now [] self.new.queues.items × AreAllAbove reached.now self.new.queues.items) }
+    ) -> Result<(), NoMemory>
+        ensures found { (streams : List (List OnePlaced)) → AreKept streams stages.now self.old → OnOk result (AreFound streams stages.now self.new.looked.items self.new.queues.items) }
+        ensures above { OnOk result (AreAllAbove reached.now self.new.queues.items) }
         ensures err { OnErr result (self.new.lost ≡ true) }
     {
-        match self.seek(alloc, streams, stages, reached) {
-            Ok(found) => Ok(found),
+        match self.know_all(alloc, stages, reached) {
+            Ok(()) => Ok(()),
             Err(e) => {
                 self.lost = true;
                 Err(e)
             }
+        }
+    }
+
+    /// Has those be looked at that wait for a stream to be followed no further than this.
+    pub fn pass(&mut self, k: usize, reached: u64) -> Result<(), NoMemory>
+        ensures found { (streams : List (List OnePlaced)) (stages : List (List OneStage)) → AreFound streams stages self.old.looked.items self.old.queues.items → OnOk result (AreFound streams stages self.new.looked.items self.new.queues.items) }
+        ensures above { (before now : List ℕ) → AreAllAbove before self.old.queues.items → slice_index now k ≡ reached → ((l : ℕ) → l ≢ k → slice_index now l ≡ slice_index before l) → OnOk result (AreAllAbove now self.new.queues.items) }
+        ensures lost { self.new.lost ≡ self.old.lost }
+    {
+        if k >= self.queues.len() {
+            return Err(NoMemory);
+        }
+        match drain(&mut self.looked, &mut self.queues[k], reached) {
+            Ok(()) => Ok(()),
+            Err(e) => Err(e),
         }
     }
 }

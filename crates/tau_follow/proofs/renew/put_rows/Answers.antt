@@ -17,7 +17,7 @@ loop-i-preserved c = λ db t a.
     let there = got_at writes c.loop-i.i w (omega (arith, c.loop-i-test.true)) c.index-writes-i.is in
     let is = a c.loop-i.i w there in
     let put : IsPut (keys_in rows) w c.place_at.result = (ap (λ (l : List Key). slice_get l c.place_at.result) inv.1 ∙ ap (slice_get (keys_in c.args.rows.now.items)) c.place_at.ensures ∙ is.0, is.1) in
-    let then : c.put_row.new.rows.items ≡ set rows c.place_at.result w = c.put_row.ensures ∙ ap (λ (v : Value). set rows c.place_at.result (w.0, v)) c.copied.ensures in (
+    let then : c.put_row.new.rows.items ≡ set rows c.place_at.result w = c.put_row.ensures.put ∙ ap (λ (v : Value). set rows c.place_at.result (w.0, v)) c.copied.ensures in (
       subst (λ (l : List (Key × Value)). IsTablesOf (after (take (c.loop-i.i + 1) writes) db) l) (sym then) (put_next db rows writes c.loop-i.i c.place_at.result w there inv.0 put),
       ap keys_in then ∙ keys_stay rows c.place_at.result w put.0 ∙ inv.1,
     ))

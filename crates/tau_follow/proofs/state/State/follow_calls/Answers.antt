@@ -26,7 +26,7 @@ returns-in-Ok-redo_new-clause-ok c = λ f n fed s p count h on calls.
     let many = a.as_many in
     let r = some_at c.args.self.now.readers.items c.args.stream (omega (arith, lt, wide, many)) in
     let w = c.in-Ok.ensures.ok r.0 (on.before ++ on.news) (ap (λ (l : List Reader). slice_get l c.args.stream) c.as_slice.ensures.value ∙ r.1) (ap (λ (l : List (List Placed)). slice_get l c.args.stream) c.as_slice-2.ensures.value ∙ there) in
-    let begun = begun_on f n fed s p streams h.follower a.fronts c.args.stream count on calls c.args.self.now.applier c.read_calls.new.applier h.stands c.args.self.now.known k.known (on.before ++ on.news) there r.0.last (a.each c.args.stream (on.before ++ on.news) r.0 there r.1).last w c.in-Ok.ensures.order in
+    let begun = begun_on f n fed s p streams h.follower a.fronts c.args.stream count on calls c.args.self.now.applier c.read_calls.new.applier h.stands c.args.self.now.known k.known (on.before ++ on.news) there r.0.last (a.each c.args.stream (on.before ++ on.news) r.0 there r.1).going.last w c.in-Ok.ensures.order in
     let redone = c.in-Ok-redo_new.ensures.ok (with_read s streams) begun h.redone.within (h.redone.store ∙ ap (λ d. redone_of d.procs (take c.args.self.now.done s.order)) (sym k.declarations))
     (subst (λ (d : Declarations). IsTablesOf (redone_of d.procs s.order) c.args.self.now.tables) (sym k.declarations) h.redone.tables) in
     let same = c.in-Ok-redo_new.ensures.same in
@@ -46,7 +46,7 @@ returns-in-Err-redo_new-clause-stands c = λ f n fed s p count h on calls.
     let many = a.as_many in
     let r = some_at c.args.self.now.readers.items c.args.stream (omega (arith, lt, wide, many)) in
     let w = c.in-Ok.ensures.ok r.0 (on.before ++ on.news) (ap (λ (l : List Reader). slice_get l c.args.stream) c.as_slice.ensures.value ∙ r.1) (ap (λ (l : List (List Placed)). slice_get l c.args.stream) c.as_slice-2.ensures.value ∙ there) in
-    let last = (a.each c.args.stream (on.before ++ on.news) r.0 there r.1).last in
+    let last = (a.each c.args.stream (on.before ++ on.news) r.0 there r.1).going.last in
     let begun = begun_on f n fed s p streams h.follower a.fronts c.args.stream count on calls c.args.self.now.applier c.read_calls.new.applier h.stands c.args.self.now.known k.known (on.before ++ on.news) there r.0.last last w c.in-Ok.ensures.order in
     let applied = c.in-Err-redo_new.ensures.applied (with_read s streams) begun in
     let long = spots_long s.streams c.args.self.now.applier.order.items s.order h.stands.spots in

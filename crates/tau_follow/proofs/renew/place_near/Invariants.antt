@@ -1,9 +1,0 @@
--- The place is between these two.
-use Rattle.std.proofs.Common.{◌≤◌, ◌-◌, length}
-use Rattle.tau_follow.proofs.renew.place_near.Given as goal
-
-abbrev pub invariant-loop-low : goal.invariant-loop-low
-invariant-loop-low l = (l.low ≤ l.high) × (l.high ≤ length l.rows)
-
-abbrev pub decreases-loop-low : goal.decreases-loop-low
-decreases-loop-low l = l.high - l.low
