@@ -2,6 +2,8 @@
 #![tactic(auto)]
 
 #[cfg(test)]
+mod peeks;
+#[cfg(test)]
 mod removals;
 #[cfg(test)]
 mod rounds;

@@ -22,8 +22,21 @@ pub struct Stuck {
     pub why: &'static str,
 }
 
-/// The desk of a run of this text, in which nothing has happened, and its head.
+/// The desk of a run of this text in the style Locking, in which nothing has happened, and its head.
 pub fn desk_of(alloc: Global, text: &[u8], n: u8, m: u8) -> Result<(Desk, Head), Fail>
+    requires n_low { 1 ≤ n }
+    requires n_high { n ≤ 16 }
+    requires m_low { 1 ≤ m }
+    requires m_high { m ≤ 16 }
+    ensures own { IfOk result (λ d. d.1.table_id ≡ d.0.table.shared.table_id) }
+    ensures opened { IfOk result (λ d. d.1.me.0.opened ≡ Some d.0.table.shared.key.value) }
+    ensures run { IfOk result (λ d. Opened d.0.table.shared.key.value.load d.0.table.shared.key.value) }
+{
+    desk_in(alloc, text, n, m, Style::Locking)
+}
+
+/// The same in a given style.
+pub fn desk_in(alloc: Global, text: &[u8], n: u8, m: u8, style: Style) -> Result<(Desk, Head), Fail>
     requires n_low { 1 ≤ n }
     requires n_high { n ≤ 16 }
     requires m_low { 1 ≤ m }
@@ -41,7 +54,7 @@ pub fn desk_of(alloc: Global, text: &[u8], n: u8, m: u8) -> Result<(Desk, Head),
     if printed.len() > MAX_CATALOGUE {
         return Err(Fail::new("the declarations are too long"));
     }
-    match Desk::new(alloc, &load, n, m, LogMode::Values, Style::Locking) {
+    match Desk::new(alloc, &load, n, m, LogMode::Values, style) {
         Ok(opened) => Ok(opened),
         Err(_) => Err(Fail::new("no memory")),
     }
