@@ -9,7 +9,8 @@ use Rattle.tau_txn.specs.declared.action.ActionKind.{ActionKind}
 use Rattle.tau_txn.specs.declared.action.ActionKind.TheVariants as kind
 use Rattle.tau_txn.specs.Next.{kind_of}
 use Rattle.tau_core.specs.declared.event.Phase.TheVariants.{Ready, Placed, Ended}
-use Rattle.tau_core.specs.Phases.{phase_of, phase_of_kind}
+use Rattle.tau_core.specs.Phases.{phase_of_kind}
+use Rattle.tau_core.proofs.PhaseOf.{phase_of}
 
 pub phase_kind : (a : Action) → phase_of a ≡ phase_of_kind (kind_of a)
 phase_kind (action.Lock x m) = refl

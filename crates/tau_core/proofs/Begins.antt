@@ -19,8 +19,8 @@ use Rattle.tau_outbox.specs.Pieces.{PlainOutbox}
 use Rattle.tau_machine.proofs.Commits.{begun_committed}
 use Rattle.tau_core.specs.Stands.{Stands, SoundSeat, anchors_at}
 use Rattle.tau_core.specs.Pieces.{IsPieceOf, Paired}
-use Rattle.tau_core.specs.Workers.{Begins, waiting_in}
-use Rattle.tau_core.specs.Carried.{Carried}
+use Rattle.tau_core.proofs.CallsBegun.{Begins, waiting_in}
+use Rattle.tau_core.proofs.Carried.{Carried}
 use Rattle.tau_core.proofs.Lists.{each_got}
 use Rattle.tau_core.proofs.Seats.{seat_core, worker_of_seat, same_outbox, seat_inside}
 

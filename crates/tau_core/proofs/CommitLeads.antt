@@ -20,7 +20,7 @@ use Rattle.tau_core.specs.State.{Plain}
 use Rattle.tau_core.specs.View.{setting_of, worker_of, Hidden, committed_by, seat_worker, pending_in, core_of}
 use Rattle.tau_core.specs.Stands.{Stands, SoundSeat, anchors_at}
 use Rattle.tau_core.specs.Pieces.{Names, IsPieceOf, Paired}
-use Rattle.tau_core.specs.Carried.{Carried}
+use Rattle.tau_core.proofs.Carried.{Carried}
 use Rattle.tau_core.specs.Commits.{Commits, stream_of}
 use Rattle.tau_core.proofs.Lists.{reads_got, each_got}
 use Rattle.tau_core.proofs.Seats.{worker_of_seat, seat_inside}

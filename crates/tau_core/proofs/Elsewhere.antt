@@ -6,7 +6,7 @@ use Rattle.tau_base.specs.declared.value.Value.{Value}
 use Rattle.tau_txn.specs.declared.action.Action.{Action}
 use Rattle.tau_txn.specs.declared.action.Action.TheVariants as action
 use Rattle.tau_core.specs.declared.event.Phase.TheVariants.{Locking, Quitting, Freeing}
-use Rattle.tau_core.specs.Phases.{phase_of}
+use Rattle.tau_core.proofs.PhaseOf.{phase_of}
 
 pub elsewhere_lock : (a : Action) → ((x : Key) (m : Mode) → a ≡ action.Lock x m → ⊥) → phase_of a ≡ Locking → ⊥
 elsewhere_lock (action.Lock x m) n e = n x m refl

@@ -22,7 +22,7 @@ use Rattle.tau_core.specs.declared.state.Load.{Load}
 use Rattle.tau_core.specs.Plain.{PlainSeat}
 use Rattle.tau_core.specs.State.{Plain}
 use Rattle.tau_core.specs.View.{setting_of, Hidden, core_of, again_in, from_on, every}
-use Rattle.tau_core.specs.Workers.{waiting_in}
+use Rattle.tau_core.proofs.CallsBegun.{waiting_in}
 use Rattle.tau_core.proofs.Begins.{carried, begun_state, reads_lift}
 use Rattle.tau_core.proofs.FreeLeads.{finishes, reading_finishes, end_stands}
 use Rattle.tau_core.specs.Stands.{Stands, SoundSeat}

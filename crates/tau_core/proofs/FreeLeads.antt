@@ -30,7 +30,7 @@ use Rattle.tau_core.specs.State.{Plain}
 use Rattle.tau_core.specs.View.{setting_of, worker_of, Hidden, shard_in, committed_by, seat_worker, worker_in, tickets, pending_in, core_of}
 use Rattle.tau_core.specs.Stands.{Stands, SoundSeat, anchors_at}
 use Rattle.tau_core.specs.Pieces.{IsPieceOf, Paired}
-use Rattle.tau_core.specs.Carried.{Carried}
+use Rattle.tau_core.proofs.Carried.{Carried}
 use Rattle.tau_core.specs.Frees.{FreesKey, EndsCall}
 use Rattle.tau_core.proofs.Lists.{reads_got, reads_changed, each_got}
 use Rattle.tau_core.proofs.Seats.{worker_of_seat, seat_inside}

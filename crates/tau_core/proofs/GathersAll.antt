@@ -12,11 +12,16 @@ use Rattle.tau_core.specs.Plain.{PlainSeat, PlainStream}
 use Rattle.tau_core.specs.State.{Plain}
 use Rattle.tau_core.specs.View.{stop_in}
 use Rattle.tau_core.specs.Stands.{Stood}
-use Rattle.tau_core.specs.Gather.{Moves, MovesOwn, MovesPosted, Roomy, BoxWaits, WaitsBelow, AllGathered}
+use Rattle.tau_core.specs.Gather.{Moves, MovesOwn, MovesPosted, Roomy, BoxWaits, AllGathered}
 use Rattle.tau_core.proofs.Lists.{got_same, got_other}
 use Rattle.tau_core.proofs.Spellings.{moves_of}
 use Rattle.tau_core.proofs.GathersOwn.{own_bound}
 use Rattle.tau_core.proofs.GathersPosted.{posted_bound}
+
+-- the manager's outbox waits, and those of the stream's workers below this one
+pub record WaitsBelow (j n : ℕ) (p : Plain) : Type 0 where
+  pub own : (s : PlainStream) → slice_get p.streams j ≡ Some s → BoxWaits j p s.own
+  pub posted : (w : ℕ) (t : PlainSeat) → w < n → w % p.load.streams ≡ j → slice_get p.seats w ≡ Some t → BoxWaits j p t.outbox
 
 -- what is moved keeps within the limit of the body
 moved_small : (next : ℕ) (before after : PlainOutbox) (body longer : List ℕ) (m : Moves next before after body longer) → length (bytes_of m.taken) ≤ MAX_BODY - length body

@@ -1,5 +1,5 @@
 -- Gather, from one outbox after another.
-use Rattle.std.proofs.Common.{ℕ, ◌+◌, ◌%◌, ◌<◌, ◌≡◌, List, length, refl, sym, ap, subst, ◌∙◌, arith, get_or-set_same}
+use Rattle.std.proofs.Common.{ℕ, ◌+◌, ◌%◌, ◌<◌, ◌≤◌, ◌≡◌, List, length, refl, sym, ap, subst, ◌∙◌, arith, get_or-set_same}
 use Rattle.std.specs.Prelude.{None, slice_get, slice_index}
 use Rattle.tau_model.specs.History.{Act}
 use Rattle.tau_machine.specs.Hands.{Txn}
@@ -12,7 +12,7 @@ use Rattle.tau_core.specs.View.{setting_of, Hidden, stop_in, core_of}
 use Rattle.tau_core.specs.Stands.{Stands, Stood}
 use Rattle.tau_core.specs.Anchors.{Reserves}
 use Rattle.tau_core.specs.Gather.{MovesOwn, MovesPosted, GathersOn, end_on, room_next, own_next, posted_next, Roomy}
-use Rattle.tau_core.specs.Ends.{GatherEnds, IsNext}
+use Rattle.tau_core.specs.Ends.{IsNext}
 use Rattle.tau_core.proofs.Anchors.{reserved_core, reserved_stands, reserved_going}
 use Rattle.tau_core.proofs.GathersOwn.{own_hidden, own_leads, own_stands, own_still, own_going}
 use Rattle.tau_core.proofs.GathersPosted.{posted_hidden, posted_leads, posted_stands, posted_still, posted_going}
@@ -21,6 +21,18 @@ pub gathered_on : (set : Setting) (j : ℕ) (a b c : Core) → Gathered set j a 
 gathered_on set j a b c stop q = q
 gathered_on set j a b c (record_first {s} {m} w first rest) q = record_first w first (gathered_on set j m b c rest q)
 gathered_on set j a b c (anchor_first {s} {m} first rest) q = anchor_first first (gathered_on set j m b c rest q)
+
+-- what the Gathers of one outbox after another lead to
+pub record GatherEnds (j : ℕ) (p p' : Plain) (K : List (Act Txn)) (h : Hidden) : Type 0 where
+  pub hidden : Hidden
+  pub leads : Gathered (setting_of p.load) j (core_of p h) (core_of p' hidden)
+  pub stands : Stands p' K hidden
+  pub load : p'.load ≡ p.load
+  pub taken : hidden.taken ≡ h.taken
+  pub going : stop_in (slice_get p'.streams j) ≡ None
+  pub up : slice_index p.gathered j ≤ slice_index p'.gathered j
+  -- where the end stays nothing changed
+  pub still : slice_index p'.gathered j ≡ slice_index p.gathered j → core_of p' hidden ≡ core_of p h
 
 module _ (j : ℕ) where
   ends_on : (p m p' : Plain) (K : List (Act Txn)) (h : Hidden) (a : GatherEnds j p m K h) → GatherEnds j m p' K a.hidden → GatherEnds j p p' K h

@@ -21,7 +21,7 @@ use Rattle.tau_core.specs.State.{Plain}
 use Rattle.tau_core.specs.View.{call_of, numbered_by, numbered, all_numbered, again_in, from_on, committed_by, setting_of, Hidden, seat_worker, worker_in, core_of}
 use Rattle.tau_core.specs.Stands.{IsNumber, AreNumbers, Stands, Stood, SoundSeat, anchors_at}
 use Rattle.tau_core.specs.Pieces.{IsPieceOf, Paired}
-use Rattle.tau_core.specs.Workers.{waiting_in}
+use Rattle.tau_core.proofs.CallsBegun.{waiting_in}
 use Rattle.tau_core.specs.Begins.{next_number, next_behind}
 use Rattle.tau_core.specs.Steps.{Happened}
 use Rattle.tau_core.specs.LeftOvers.{AllRest, IsLowestOf, TakesBack, ResumedBy, ResumeSteps}

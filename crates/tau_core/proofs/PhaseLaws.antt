@@ -18,7 +18,8 @@ use Rattle.tau_txn.specs.Txn.{PlainTxn, hand_in, leaves_in, has_joined}
 use Rattle.tau_txn.specs.Next.{Means, FreesBy}
 use Rattle.tau_core.specs.declared.event.Phase.{Phase}
 use Rattle.tau_core.specs.declared.event.Phase.TheVariants.{Resting, Locking, Freeing, Ended}
-use Rattle.tau_core.specs.Phases.{freeing_phase, finished_phase, stage_phase, running_phase, phase_by, hand_phase, phase_of}
+use Rattle.tau_core.specs.Phases.{freeing_phase, finished_phase, stage_phase, running_phase, phase_by, hand_phase}
+use Rattle.tau_core.proofs.PhaseOf.{phase_of}
 use Rattle.tau_core.proofs.Hands.{hand_gone}
 
 shown_phase : (procs : List Proc) (o : Option Hand) (h : Hand) (m : machine.Phase) → o ≡ Some h → h.phase ≡ m → hand_phase procs o ≡ phase_by procs h m

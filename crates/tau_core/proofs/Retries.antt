@@ -21,7 +21,7 @@ use Rattle.tau_core.specs.declared.state.Load.{Load}
 use Rattle.tau_core.specs.State.{Plain}
 use Rattle.tau_core.specs.View.{setting_of, Hidden, shard_in, core_of}
 use Rattle.tau_core.specs.Stands.{Stands, Stood, Sound}
-use Rattle.tau_core.specs.Carried.{Carried}
+use Rattle.tau_core.proofs.Carried.{Carried}
 use Rattle.tau_core.specs.Begins.{HasNext, Undone}
 use Rattle.tau_core.specs.Firsts.{InHand, Rests, BeginsBy, ActsBy, goes, begins, rests}
 use Rattle.tau_core.specs.Steps.{Happened, StandsElsewhere}

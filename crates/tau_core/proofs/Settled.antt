@@ -28,7 +28,7 @@ use Rattle.tau_core.specs.State.{Plain}
 use Rattle.tau_core.specs.View.{setting_of, Hidden, shard_in, committed_by, seat_worker, tickets, core_of}
 use Rattle.tau_core.specs.Stands.{is_open, Stands, Sound, SoundSeat, anchors_at}
 use Rattle.tau_core.specs.Pieces.{IsPieceOf, Paired}
-use Rattle.tau_core.specs.Carried.{Carried}
+use Rattle.tau_core.proofs.Carried.{Carried}
 use Rattle.tau_core.specs.Workers.{IsRefused, GivesBack, Keeps}
 use Rattle.tau_core.proofs.Lists.{reads_got, each_got}
 use Rattle.tau_core.proofs.Seats.{seat_core, worker_of_seat, same_outbox, seat_inside, seat_sound, one_open}

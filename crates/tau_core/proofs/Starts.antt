@@ -18,7 +18,7 @@ use Rattle.tau_core.specs.State.{Plain}
 use Rattle.tau_core.specs.View.{setting_of, call_of, worker_of, numbered_by, numbered, every, from_on, again_in, Hidden, tickets, core_of}
 use Rattle.tau_core.specs.Stands.{is_open, open_calls, Stands, SoundSeat, anchors_at}
 use Rattle.tau_core.specs.Pieces.{IsPieceOf, Paired}
-use Rattle.tau_core.specs.Workers.{waiting_in, Begins}
+use Rattle.tau_core.proofs.CallsBegun.{waiting_in, Begins}
 use Rattle.tau_core.specs.Begins.{number_by, next_number, next_behind, HasNext, RoomMade, IsRoomy, BeginsNext}
 use Rattle.tau_core.proofs.Lists.{each_got}
 use Rattle.tau_core.proofs.Hands.{both_some, hand_gone}

@@ -32,9 +32,10 @@ use Rattle.tau_core.specs.Plain.{PlainSeat}
 use Rattle.tau_core.specs.State.{Plain}
 use Rattle.tau_core.specs.View.{setting_of, Hidden, shard_in, core_of}
 use Rattle.tau_core.specs.Stands.{Stands, anchors_at}
-use Rattle.tau_core.specs.Carried.{Carried}
+use Rattle.tau_core.proofs.Carried.{Carried}
 use Rattle.tau_core.specs.Steps.{Happened, Unmoved, WantsLock, Grants, IsBarredBy, StandsElsewhere, IsAt, LockSteps, QuitSteps, CommitSteps, PostSteps, FreeSteps}
-use Rattle.tau_core.specs.Workers.{Begins, Takes, IsRefused, GivesBack, StaysShort}
+use Rattle.tau_core.specs.Workers.{Takes, IsRefused, GivesBack, StaysShort}
+use Rattle.tau_core.proofs.CallsBegun.{Begins}
 use Rattle.tau_core.specs.Locks.{IsElsewhere, IsAtPhase, LockedBy, QuitBy}
 use Rattle.tau_core.specs.Firsts.{InHand, Rests, BegunAs}
 use Rattle.tau_core.specs.Begins.{HasNext}

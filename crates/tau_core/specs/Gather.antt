@@ -1,5 +1,5 @@
 -- What a manager gathers.
-use Rattle.std.specs.Prelude.{ℕ, None, min, ◌+◌, ◌-◌, ◌%◌, ◌<◌, ◌≡◌, ◌≤◌, ◌⊎◌, Some, List, [], ◌++◌, length, slice_get, slice_index, slice_set}
+use Rattle.std.specs.Prelude.{ℕ, None, min, ◌+◌, ◌-◌, ◌%◌, ◌≡◌, ◌≤◌, ◌⊎◌, Some, List, [], ◌++◌, length, slice_get, slice_index, slice_set}
 use Rattle.tau_base.specs.declared.limits.TheConstants.{MAX_BODY}
 use Rattle.tau_outbox.specs.declared.Piece.{Piece}
 use Rattle.tau_outbox.specs.Pieces.{PlainOutbox, bytes_of}
@@ -67,11 +67,6 @@ Roomy j p = (s : PlainStream) → slice_get p.streams j ≡ Some s → min (MAX_
 -- the front piece of this outbox does not start where the stream is gathered, or it is too long for the body
 abbrev pub BoxWaits : ℕ → Plain → PlainOutbox → Type 0
 BoxWaits j p o = (s : PlainStream) → slice_get p.streams j ≡ Some s → Stops (slice_index p.gathered j) (length s.body) o.pieces
-
--- so it is of the manager's outbox, and of those of the stream's workers below this one
-pub record WaitsBelow (j n : ℕ) (p : Plain) : Type 0 where
-  pub own : (s : PlainStream) → slice_get p.streams j ≡ Some s → BoxWaits j p s.own
-  pub posted : (w : ℕ) (t : PlainSeat) → w < n → w % p.load.streams ≡ j → slice_get p.seats w ≡ Some t → BoxWaits j p t.outbox
 
 -- nothing that is posted may be gathered: so it is of the manager's outbox, and of those of all the stream's workers
 pub record AllGathered (j : ℕ) (p : Plain) : Type 0 where

@@ -2,7 +2,6 @@ pub mod Anchors
 pub mod Answered
 pub mod Begins
 pub mod Body
-pub mod Carried
 pub mod Clerk
 pub mod Commits
 pub mod Ends

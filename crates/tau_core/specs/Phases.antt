@@ -9,8 +9,6 @@ use Rattle.tau_machine.specs.Hands.{Hand}
 use Rattle.tau_machine.specs.Stage as stages
 use Rattle.tau_machine.specs.Stage.{Stage, stage}
 use Rattle.tau_machine.specs.Worker.{lock_of}
-use Rattle.tau_txn.specs.declared.action.Action.{Action}
-use Rattle.tau_txn.specs.declared.action.Action.TheVariants as action
 use Rattle.tau_txn.specs.declared.action.ActionKind.{ActionKind}
 use Rattle.tau_txn.specs.declared.action.ActionKind.TheVariants as kind
 use Rattle.tau_core.specs.declared.event.Phase.{Phase}
@@ -45,17 +43,6 @@ phase_by procs h (machine.Freeing t) = freeing_phase h.held
 abbrev pub hand_phase : List Proc → Option Hand → Phase
 hand_phase procs None = Resting
 hand_phase procs (Some h) = phase_by procs h h.phase
-
--- the phase in which an action comes
-abbrev pub phase_of : Action → Phase
-phase_of (action.Lock x m) = Locking
-phase_of (action.Quit x) = Quitting
-phase_of (action.Commit size) = Ready
-phase_of action.Post = Placed
-phase_of (action.Free x write) = Freeing
-phase_of (action.Done reply lv) = Ended
-phase_of action.LeftOver = Resting
-phase_of action.Nothing = Resting
 
 -- the phase in which an action of this kind comes
 abbrev pub phase_of_kind : ActionKind → Phase

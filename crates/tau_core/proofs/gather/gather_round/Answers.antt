@@ -1,12 +1,12 @@
 use Rattle.std.proofs.Common.{ℕ, ◌+◌, ◌%◌, ◌≡◌, refl, sym, ap, subst, ◌∙◌, arith}
 use Rattle.std.specs.Prelude.{slice_index}
 use Rattle.tau_core.specs.State.{plain}
-use Rattle.tau_core.specs.Gather.{GathersOn, end_on, WaitsBelow}
+use Rattle.tau_core.specs.Gather.{GathersOn, end_on}
 use Rattle.tau_core.specs.Ends.{IsNext}
 use Rattle.tau_core.specs.declared.state.Load.{Load}
 use Rattle.tau_core.specs.declared.state.State.{State}
 use Rattle.tau_core.proofs.GathersOn.{next_on, on_own, on_posted}
-use Rattle.tau_core.proofs.GathersAll.{own_waits, posted_waits, passed_waits, all_wait}
+use Rattle.tau_core.proofs.GathersAll.{WaitsBelow, own_waits, posted_waits, passed_waits, all_wait}
 use Rattle.tau_core.proofs.gather.gather_round.Goals as goal
 use Rattle.tau_core.proofs.gather.gather_round.Goals.{then-stream_of-stream, else-stream_of-stream}
 

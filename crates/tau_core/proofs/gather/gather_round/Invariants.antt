@@ -1,8 +1,9 @@
 use Rattle.std.proofs.Common.{◌≡◌}
 use Rattle.std.specs.Prelude.{slice_index}
 use Rattle.tau_core.specs.State.{plain}
-use Rattle.tau_core.specs.Gather.{GathersOn, WaitsBelow}
+use Rattle.tau_core.specs.Gather.{GathersOn}
 use Rattle.tau_core.specs.Ends.{IsNext}
+use Rattle.tau_core.proofs.GathersAll.{WaitsBelow}
 use Rattle.tau_core.proofs.gather.gather_round.Given as goal
 
 abbrev pub invariant-loop-worker : goal.invariant-loop-worker
