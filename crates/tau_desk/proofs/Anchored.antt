@@ -21,7 +21,8 @@ use Rattle.tau_core.proofs.Lists.{member_snoc}
 use Rattle.tau_core.proofs.AnchorNames.{end_low}
 use Rattle.tau_core.proofs.Spellings.{Split, paired_split}
 use Rattle.tau_occ.specs.declared.style.Style.{Style}
-use Rattle.tau_rule.specs.Anchoring.{IsToAnchor, anchored, anchored_view}
+use Rattle.tau_rule.specs.Anchoring.{IsToAnchor, anchored}
+use Rattle.tau_rule.proofs.Anchoring.{anchored_view}
 use Rattle.tau_rule.specs.Places.{got_place}
 use Rattle.tau_rule.specs.Role.{Managed, Managing, Role}
 use Rattle.tau_rule.specs.Knows.{Knows}

@@ -20,7 +20,7 @@ use Rattle.tau_rule.specs.Role.{Role, Share, managed_in_share}
 use Rattle.tau_rule.specs.Rule.{IsPart, IsShare, has, manager_role, outbox_part, part_count}
 use Rattle.tau_rule.specs.declared.part.Part.{Part}
 use Rattle.tau_desk.specs.declared.mark.Mark.{Mark}
-use Rattle.tau_desk.specs.Close.{IsSeatOf, IsStreamOf, PutTogether}
+use Rattle.tau_desk.proofs.PutTogether.{IsSeatOf, IsStreamOf, PutTogether}
 use Rattle.tau_desk.specs.Ends.{AreResting, IsClosing, IsWhole}
 use Rattle.tau_desk.specs.Seats.{PlainHead}
 use Rattle.tau_desk.specs.Shares.{FitsWork, PlainWork, ShowsWorker, own_worker, unbegun}

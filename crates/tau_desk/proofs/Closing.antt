@@ -31,7 +31,8 @@ use Rattle.tau_rule.specs.Role.{Managed, Share, Working, Managing, Clerking, Rol
 use Rattle.tau_rule.specs.Knows.{Knows}
 use Rattle.tau_rule.specs.Rule.{Now, Rule, anchors_at, IsOutbox, IsPart, IsShare, IsManaged, IsRole, Sees, Meets, has, hand_of, outbox_part, part_count, manager_role, word_of}
 use Rattle.tau_rule.proofs.Turns.{reached_invariant}
-use Rattle.tau_desk.specs.Close.{IsShardOf, IsBoxOf, IsStreamOf, PutTogether}
+use Rattle.tau_desk.specs.Close.{IsShardOf, IsBoxOf}
+use Rattle.tau_desk.proofs.PutTogether.{IsStreamOf, PutTogether}
 use Rattle.tau_desk.specs.Ends.{HasAll, IsClosing}
 use Rattle.tau_rule.specs.declared.part.Part.{Part}
 use Rattle.tau_rule.specs.declared.part.Part.TheVariants as part

@@ -26,7 +26,8 @@ use Rattle.tau_core.specs.State.{Plain}
 use Rattle.tau_core.specs.View.{setting_of}
 use Rattle.tau_occ.specs.declared.style.Style.{Style}
 use Rattle.tau_rule.specs.Knows.{Knows}
-use Rattle.tau_rule.specs.Steps.{Sat, Agrees, IsReady, IsAfter, StepsShard, next_worker, told, working, shard_in}
+use Rattle.tau_rule.specs.Steps.{Sat, Agrees, IsReady, StepsShard, next_worker, told, working, shard_in}
+use Rattle.tau_rule.proofs.Placing.{IsAfter}
 use Rattle.tau_rule.specs.declared.part.Part.{Part}
 use Rattle.tau_rule.proofs.Gives.{told_is}
 use Rattle.tau_rule.proofs.Turns.{part_shard, reached_invariant}

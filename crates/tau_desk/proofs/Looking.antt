@@ -12,7 +12,8 @@ use Rattle.tau_rule.specs.Knows.{Knows}
 use Rattle.tau_rule.specs.Rule.{Rule, part_count}
 use Rattle.tau_rule.specs.Boxes.{IsToPost}
 use Rattle.tau_rule.specs.Steps.{Sat, first_role, knew}
-use Rattle.tau_rule.specs.Stopping.{stop_word, raising}
+use Rattle.tau_rule.specs.Stopping.{stop_word}
+use Rattle.tau_rule.proofs.Stopping.{raising}
 use Rattle.tau_rule.proofs.Stopping.{stops}
 use Rattle.tau_desk.specs.Shares.{IsWork, PlainStock, PlainWork}
 use Rattle.tau_desk.specs.Seats.{IsClerkSeat, IsHead, IsManagerSeat, IsWorkerSeat}

@@ -14,7 +14,7 @@ use Rattle.tau_rule.specs.Role.{Role}
 use Rattle.tau_rule.specs.Knows.{Knows}
 use Rattle.tau_core.specs.declared.state.Load.{Load}
 use Rattle.tau_rule.specs.Rule.{IsOutbox, IsRole, Meets, Now, Sees, anchors_at, clerk_role, has, manager_role}
-use Rattle.tau_rule.specs.Heads.{left_by, split_as, split_off}
+use Rattle.tau_rule.specs.Heads.{left_by, split_off}
 use Rattle.tau_rule.specs.First.{first_view}
 use Rattle.tau_rule.specs.Steps.{Sat}
 use Rattle.tau_desk.specs.Seats.{PlainClerkSeat, PlainHead, PlainManagerSeat, PlainWorkerSeat}
@@ -67,11 +67,6 @@ pub record IsClerkSplit (l : Load) (head head' : PlainHead) (new : PlainClerkSea
   pub left : head' ≡ record head { me = head'.me; clerk = false }
   pub table : new.table_id ≡ head.table_id
   pub seen : new.seen ≡ head.seen
-
--- a worker's role leaves the head, and a call that was left over comes next there
-pub record IsResumed (role : ℕ) (back : Role) (head head' new : Sat) : Type 0 where
-  pub head_is : head' ≡ (left_by role head.0, [])
-  pub new_is : new ≡ (split_as role back head.0, [])
 
 -- the head knows that the actor of its first role has raised the stop
 abbrev pub first_raised : List (ℕ × Role) → List (ℕ × Role)

@@ -13,14 +13,14 @@ use Rattle.tau_machine.proofs.At.{at_same, at_other}
 use Rattle.tau_outbox.specs.declared.Piece.{Piece}
 use Rattle.tau_core.specs.State.{Plain}
 use Rattle.tau_core.specs.View.{setting_of}
-use Rattle.tau_rule.specs.Role.{Share, Working, Managing, Clerking, Role}
+use Rattle.tau_rule.specs.Role.{Share, Working, Managing, Clerking, Role, Managed}
 use Rattle.tau_core.specs.Pieces.{Names, AreBytesOf, IsPieceOf, Paired, Spelled}
 use Rattle.tau_occ.specs.declared.style.Style.{Style}
 use Rattle.tau_rule.specs.Knows.{Knows}
 use Rattle.tau_rule.specs.Rule.{Now, Rule, IsPart, IsShare, IsManaged, IsRole, Sees, Meets, MAX_ANCHOR, anchors_at, word_of, hand_of, has, part_count, manager_role, LONGEST}
 use Rattle.tau_rule.specs.Steps.{Sat}
 use Rattle.tau_rule.specs.Places.{got_place}
-use Rattle.tau_rule.specs.Anchoring.{anchored, anchored_view, IsToAnchor}
+use Rattle.tau_rule.specs.Anchoring.{anchored, IsToAnchor}
 use Rattle.tau_rule.specs.declared.part.Part.{Part}
 use Rattle.tau_rule.specs.declared.part.Part.TheVariants as part
 use Rattle.tau_rule.proofs.Turns.{reached_invariant, Turn, reached_on, stored_on, one_role, role_alone, alone}
@@ -28,6 +28,10 @@ use Rattle.tau_rule.proofs.Numbers.{few_joined}
 use Rattle.tau_rule.proofs.Boxes.{paired_snoc}
 use Rattle.tau_rule.proofs.Placing.{word_alloc, word_other, room}
 use Rattle.tau_base.proofs.Lists.{got_front}
+use Rattle.tau_core.specs.declared.state.Load.{Load}
+
+abbrev pub anchored_view : Load → ℕ → Role → Managed → List ℕ → Knows → ℕ → Knows
+anchored_view l j x g bytes v start = record v { roles = (manager_role l j, record x { share = Managing (anchored g v.seen bytes start) }) ∷ [] }
 
 -- each list of anchors begins with the one before
 abbrev Grows : (ℕ → List (List ℕ)) → (ℕ → List (List ℕ)) → Type 0

@@ -1,6 +1,6 @@
 -- A worker's events on its outbox: the step, and Post.
 use Rattle.std.proofs.Common.{◌≡◌, ℕ, ◌+◌, ◌<◌, ◌≤◌, inl, inr, List, [], ◌∷◌, ◌++◌, Option, length, refl, sym, ap, ◌∙◌, subst, arith, length-append}
-use Rattle.std.specs.Prelude.{Some}
+use Rattle.std.specs.Prelude.{Some, None}
 use Rattle.tau_shown.proofs.Steps.{gives_part}
 use Rattle.tau_model.specs.History.{Act, Member}
 use Rattle.tau_machine.specs.Hands.{Txn, Hand, Placed, Freeing}
@@ -16,19 +16,37 @@ use Rattle.tau_outbox.specs.Pieces as outbox
 use Rattle.tau_outbox.specs.Pieces.{PlainOutbox}
 use Rattle.tau_ack.specs.Pending.{PlainPending}
 use Rattle.tau_core.specs.State.{Plain}
-use Rattle.tau_core.specs.View.{setting_of}
+use Rattle.tau_core.specs.View.{setting_of, tickets}
 use Rattle.tau_rule.specs.Role.{Share, Working, Managing, Clerking, Role}
 use Rattle.tau_core.specs.Pieces.{IsPieceOf, Paired}
 use Rattle.tau_rule.specs.Knows.{Knows}
 use Rattle.tau_occ.specs.declared.style.Style.{Style}
 use Rattle.tau_rule.specs.Holders.{BusyHasCause}
 use Rattle.tau_rule.specs.Rule.{PersistsNone, Now, IsPart, IsShare, IsRole, IsOutbox, Sees, Meets, anchors_at, word_of, hand_of, has, part_count, outbox_part}
-use Rattle.tau_rule.specs.Steps.{ComesHome, handed, first_role, worker_in_share, next_worker}
-use Rattle.tau_rule.specs.Boxes.{BoxOf, box_in, with_box, StepsBox, GivesBox, told_box}
+use Rattle.tau_rule.specs.Steps.{ComesHome, handed, first_role, worker_in_share, next_worker, Sat}
+use Rattle.tau_rule.specs.Boxes.{BoxOf, box_in, with_box, StepsBox, told_box}
 use Rattle.tau_rule.specs.declared.part.Part.{Part}
 use Rattle.tau_rule.specs.declared.part.Part.TheVariants as part
-use Rattle.tau_core.specs.View.{tickets}
 use Rattle.tau_rule.proofs.Turns.{Turn, reached_invariant, more, reached_on, stored_on, handed_sees, share_worker, one_role, role_alone, alone}
+
+-- the seat has its outbox in hand, and this event leaves it so
+pub record GivesBox (origin : Plain) (e : Event) (m : Sat) (q : Part) (w : ℕ) (wk' : Worker) (spare : ℕ × ℕ) : Type 0 where
+  pub taken : Part
+  pub role : Role
+  pub worker : Worker
+  pub before : PlainOutbox × PlainPending
+  pub after : PlainOutbox × PlainPending
+  pub held : m.0.hand ≡ Some (outbox_part w, taken)
+  pub carried : m.1 ≡ (outbox_part w, None) ∷ []
+  pub roles : m.0.roles ≡ (w, role) ∷ []
+  pub share : role.share ≡ Working worker
+  pub was : box_in taken ≡ Some before
+  pub is : box_in q ≡ Some after
+  pub there : w < origin.load.workers
+  pub records : spare.0 ≤ after.0.room
+  pub calls : spare.1 ≤ after.1.room
+  pub steps : StepsBox origin e m.0 w worker wk' before after
+  pub none : PersistsNone e
 
 module _ (origin : Plain) where
   pub part_box : (c : Now) (w : ℕ) (p : Part) (b : PlainOutbox × PlainPending) → box_in p ≡ Some b → IsPart origin.load (outbox_part w) p c → IsOutbox origin.load b.0 b.1 (anchors_at c.core) (c.core.outboxes w)

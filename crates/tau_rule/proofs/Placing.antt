@@ -27,7 +27,7 @@ use Rattle.tau_core.specs.Pieces.{Names}
 use Rattle.tau_occ.specs.declared.style.Style.{Style}
 use Rattle.tau_rule.specs.Knows.{Knows}
 use Rattle.tau_rule.specs.Rule.{Now, Rule, IsPart, IsShare, IsRole, Sees, Meets, MAX_ANCHOR, anchors_at, word_of, hand_of, has, part_count, manager_role, number_if, is_raised, LONGEST}
-use Rattle.tau_rule.specs.Steps.{Sat, IsAfter, working, first_role, worker_in_share}
+use Rattle.tau_rule.specs.Steps.{Sat, IsWorker, working, first_role, worker_in_share}
 use Rattle.tau_rule.specs.Places.{IsToPlace, placed_by, placed_worker, placed, got_place}
 use Rattle.tau_rule.specs.declared.part.Part.{Part}
 use Rattle.tau_rule.specs.declared.part.Part.TheVariants as part
@@ -35,6 +35,18 @@ use Rattle.tau_rule.proofs.Turns.{reached_invariant, Turn, reached_on, stored_on
 use Rattle.tau_rule.proofs.Numbers.{few_joined}
 use Rattle.tau_base.proofs.Vectors.{join_none}
 use Rattle.tau_core.proofs.CommitLeads.{join_zero}
+
+-- the call in hand is the worker's
+pub record IsAfter (origin : Plain) (w : ℕ) (m : Sat) (t : PlainTxn) : Type 0 where
+  pub role : Role
+  pub worker : Worker
+  pub seat : IsWorker origin m w role
+  pub share : role.share ≡ Working worker
+  pub there : w < origin.load.workers
+  pub number : t.worker ≡ w
+  pub width : t.width ≡ origin.load.streams
+  pub runs : RunsBy origin.load.procs t
+  pub agrees : worker.hand ≡ hand_in origin.load.procs t
 
 -- the anchor as the machine names it: none, or one of this run
 record NamedSo (origin : Plain) (anchors : List (List ℕ)) (j number : ℕ) (dep base : List ℕ) : Type 0 where

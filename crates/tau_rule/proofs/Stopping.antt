@@ -12,10 +12,14 @@ use Rattle.tau_rule.specs.Role.{Role}
 use Rattle.tau_rule.specs.Knows.{Knows}
 use Rattle.tau_rule.specs.Rule.{Now, Rule, IsPart, IsRole, Sees, Meets, word_of, hand_of, has, part_count, manager_role, number_if, is_raised}
 use Rattle.tau_rule.specs.Steps.{Sat, knew}
-use Rattle.tau_rule.specs.Stopping.{stop_word, raising}
+use Rattle.tau_rule.specs.Stopping.{stop_word}
 use Rattle.tau_rule.specs.declared.part.Part.{Part}
 use Rattle.tau_rule.specs.declared.part.Part.TheVariants as part
 use Rattle.tau_rule.proofs.Turns.{one_role, role_alone, alone, same_share}
+
+-- the seat of this role has raised the stop
+abbrev pub raising : ℕ → Role → Knows → Knows
+raising u x v = record v { roles = (u, record x { raised = true }) ∷ [] }
 
 pub raises : (n u : ℕ) (f : ℕ → Bool) → u < n → is_raised n (at u true f) ≡ true
 raises zero u f low = absurd (omega arith)

@@ -5,19 +5,14 @@ use Rattle.tau_base.specs.Modes.{format_of}
 use Rattle.tau_record.specs.Record.{Spells}
 use Rattle.tau_record.specs.declared.entry.Entry.TheVariants as entry
 use Rattle.tau_core.specs.State.{Plain}
-use Rattle.tau_core.specs.declared.state.Load.{Load}
-use Rattle.tau_rule.specs.Role.{Managed, Managing, Role}
-use Rattle.tau_rule.specs.Knows.{Knows}
-use Rattle.tau_rule.specs.Rule.{MAX_ANCHOR, manager_role}
+use Rattle.tau_rule.specs.Role.{Managed}
+use Rattle.tau_rule.specs.Rule.{MAX_ANCHOR}
 use Rattle.tau_rule.specs.Steps.{Sat}
 use Rattle.tau_rule.specs.Positions.{IsManager}
 
 -- what it has then: one anchor more, whose record starts there
 abbrev pub anchored : Managed → List ℕ → List ℕ → ℕ → Managed
 anchored g v bytes start = record g { anchors = g.anchors ++ v ∷ []; own = g.own ++ record { start = start; bytes = bytes } ∷ [] }
-
-abbrev pub anchored_view : Load → ℕ → Role → Managed → List ℕ → Knows → ℕ → Knows
-anchored_view l j x g bytes v start = record v { roles = (manager_role l j, record x { share = Managing (anchored g v.seen bytes start) }) ∷ [] }
 
 -- the seat is the manager's, these are the bytes of the anchor that holds what it has seen, and the stream has room for one
 pub record IsToAnchor (origin : Plain) (j : ℕ) (m : Sat) (bytes : List ℕ) : Type 0 where

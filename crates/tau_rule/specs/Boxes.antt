@@ -46,25 +46,6 @@ StepsBox origin e v w wk wk' b b' =
     (style : Style) (c : Now) → Meets origin style c → Sees origin c v → c.core.workers w ≡ wk → IsOutbox origin.load b.0 b.1 (anchors_at c.core) (c.core.outboxes w) →
     (box : Outbox) × (new : List (Act Txn)) × Leads (setting_of origin.load) e c.core (with_outbox (with_worker c.core w wk') w box) new × IsOutbox origin.load b'.0 b'.1 (anchors_at c.core) box × BusyHasCause (setting_of origin.load) style e c.core
 
--- the seat has its outbox in hand, and this event leaves it so
-pub record GivesBox (origin : Plain) (e : Event) (m : Sat) (q : Part) (w : ℕ) (wk' : Worker) (spare : ℕ × ℕ) : Type 0 where
-  pub taken : Part
-  pub role : Role
-  pub worker : Worker
-  pub before : PlainOutbox × PlainPending
-  pub after : PlainOutbox × PlainPending
-  pub held : m.0.hand ≡ Some (outbox_part w, taken)
-  pub carried : m.1 ≡ (outbox_part w, None) ∷ []
-  pub roles : m.0.roles ≡ (w, role) ∷ []
-  pub share : role.share ≡ Working worker
-  pub was : box_in taken ≡ Some before
-  pub is : box_in q ≡ Some after
-  pub there : w < origin.load.workers
-  pub records : spare.0 ≤ after.0.room
-  pub calls : spare.1 ≤ after.1.room
-  pub steps : StepsBox origin e m.0 w worker wk' before after
-  pub none : PersistsNone e
-
 -- what the seat knows then
 abbrev pub told_box : Load → Knows → PlainTxn → ℕ × ℕ → Knows
 told_box l v t spare = handed v (first_role v.roles).0 (with_box (first_role v.roles).1 (next_worker l (worker_in v) t) spare)

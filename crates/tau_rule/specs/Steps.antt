@@ -141,18 +141,6 @@ pub record IsBack (origin : Plain) (m : Sat) (k : ℕ) (q : Part) : Type 0 where
   pub roles : m.0.roles ≡ (number, role) ∷ []
   pub same : (c : Now) → IsPart origin.load k taken c → IsPart origin.load k q c
 
--- the call in hand is the worker's
-pub record IsAfter (origin : Plain) (w : ℕ) (m : Sat) (t : PlainTxn) : Type 0 where
-  pub role : Role
-  pub worker : Worker
-  pub seat : IsWorker origin m w role
-  pub share : role.share ≡ Working worker
-  pub there : w < origin.load.workers
-  pub number : t.worker ≡ w
-  pub width : t.width ≡ origin.load.streams
-  pub runs : RunsBy origin.load.procs t
-  pub agrees : worker.hand ≡ hand_in origin.load.procs t
-
 -- the seat has taken the part k, which agrees with what it knows
 abbrev pub Took : Plain → ℕ → Sat → Sat → Type 0
 Took origin k m m' = (p : Part) × (m' ≡ (holding k m.0 p, (k, Some p) ∷ [])) × Agrees origin m.0 k p
