@@ -19,7 +19,7 @@ use Rattle.tau_desk.specs.Ends.{IsFirst, IsManagerSplit, IsWhole}
 use Rattle.tau_desk.specs.Shares.{PlainStock}
 use Rattle.tau_desk.specs.Manages.{managed_in}
 use Rattle.tau_desk.specs.Seats.{Heads, Manages, PlainHead, PlainManagerSeat}
-use Rattle.tau_crew_facts.specs.Writers.{SeenNow}
+use Rattle.tau_crew_facts.proofs.DiskLaws.{SeenNow}
 use Rattle.tau_crew.specs.declared.manager.ManagerJob.{ManagerJob}
 use Rattle.tau_crew.specs.Dealing.{AreDealt, DealsOne, IsDealing, IsDealt}
 use Rattle.tau_crew.specs.Driving.{IsManagerAt}

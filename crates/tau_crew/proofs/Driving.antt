@@ -14,7 +14,8 @@ use Rattle.tau_stream.specs.Writer.{disk_of, durable_of, left_of, has_failed, pa
 use Rattle.tau_rule.specs.Positions.{stores_to}
 use Rattle.tau_desk.specs.Manages.{told_raised}
 use Rattle.tau_desk.specs.Seats.{Manages, PlainManagerSeat}
-use Rattle.tau_crew_facts.specs.Writers.{AllBecameDurable, BecameDurable, CountsNow, HasWritten, IsCurrent, IsManaging, OnlyNow, SeenNow}
+use Rattle.tau_crew_facts.specs.Writers.{AllBecameDurable, BecameDurable, HasWritten, IsCurrent, IsManaging}
+use Rattle.tau_crew_facts.proofs.DiskLaws.{CountsNow, OnlyNow, SeenNow}
 use Rattle.tau_machine.proofs.Snoc.{member_snoc}
 use Rattle.tau_crew_facts.proofs.Lasting.{durable_now, flush_keeps}
 use Rattle.tau_crew_facts.proofs.ManagerWriter.{broke, bytes_append, flushed, gathers, gathers_short}

@@ -1,7 +1,6 @@
 -- The head has every role back: the desk closes, and that ends the run.
 use Rattle.std.proofs.Common.{ℕ, ◌+◌, ◌<◌, ◌≡◌, Option, List, [], length, map, refl, sym, ap, subst, ◌∙◌, arith, slice_index}
-use Rattle.std.specs.Prelude.{Some, None, slice_get}
-use Rattle.std.specs.Prelude.{slice_index_or}
+use Rattle.std.specs.Prelude.{Some, None, slice_get, slice_index_or}
 use Rattle.std.specs.Option.{option_map}
 use Rattle.std.proofs.lemmas.List.{length-map}
 use Rattle.std.proofs.lemmas.Option.{slice_get-map}
@@ -12,7 +11,7 @@ use Rattle.tau_run.specs.Run.{pair_of}
 use Rattle.tau_crew_facts.specs.Ends.{IsThreadEnd}
 use Rattle.tau_crew_facts.specs.Telling.{IsTelling}
 use Rattle.tau_crew_facts.proofs.Closing.{lasts, thread_end}
-use Rattle.tau_desk.specs.Manages.{acked_in, managed_in}
+use Rattle.tau_desk.specs.Manages.{acked_in, managed_in, acked_in_share}
 use Rattle.tau_crew.specs.Clerking.{all_told}
 use Rattle.atomic_table.specs.Seated.{TableId}
 use Rattle.tau_disk.specs.declared.disk.Disk.{Ghosts}
@@ -26,7 +25,6 @@ use Rattle.tau_rule.specs.Role.{Clerking, Managing, Managed, Role, Working, mana
 use Rattle.tau_rule.specs.Rule.{clerk_role, has, manager_role}
 use Rattle.tau_rule.specs.Steps.{first_role, worker_in_share}
 use Rattle.tau_desk.specs.Ends as desk
-use Rattle.tau_desk.specs.Manages.{acked_in_share}
 use Rattle.tau_desk.specs.Seats.{HasStock, HasWork, Heads, PlainHead}
 use Rattle.tau_desk.specs.Shares.{PlainStock, PlainWork}
 use Rattle.tau_crew_facts.specs.Closing.{IsClosing, ManagerKnows}
@@ -35,11 +33,17 @@ use Rattle.tau_crew.specs.declared.clerk.ClerkJob.{ClerkJob}
 use Rattle.tau_crew.specs.declared.manager.ManagerJob.{ManagerJob}
 use Rattle.tau_crew.specs.Gathering.{taken_in}
 use Rattle.tau_crew.specs.Ending.{role_back, worker_back}
-use Rattle.tau_crew.specs.EndCloses.{ClosesRun, IsAllBack, acked_back, managed_back}
+use Rattle.tau_crew.specs.EndCloses.{ClosesRun, IsAllBack}
 use Rattle.tau_crew.specs.EndJoins.{writer_in}
 use Rattle.tau_crew.proofs.EndJoins.{same_origin}
 use Rattle.tau_base.proofs.Lists.{some_at, got_within}
 use Rattle.tau_run.specs.Writers.{EachOf}
+
+abbrev pub managed_back : Plain → PlainHead → ℕ → Managed
+managed_back first h j = managed_in_share (role_back h (manager_role first.load j)).share
+
+abbrev pub acked_back : Plain → PlainHead → List (List Ticket)
+acked_back first h = acked_in_share (role_back h (clerk_role first.load)).share
 
 module _ {D : Type 0} {G : Ghosts D} (first : Plain) (table : TableId) (bases : ℕ → List ℕ) (ws : List (Writer D G)) (h : PlainHead) (jobs : List (ManagerJob D G)) (telling : ClerkJob) (b : IsAllBack first table bases ws h jobs telling) (d : Heads h) where
   pub as_first : d.origin ≡ first

@@ -31,7 +31,8 @@ use Rattle.tau_crew.specs.declared.manager.ManagerJob.{ManagerJob}
 use Rattle.tau_crew.specs.Clerking.{all_told}
 use Rattle.tau_crew.specs.Driving.{anchors_in, own_of}
 use Rattle.tau_crew.specs.Ending.{role_back, worker_back}
-use Rattle.tau_crew.specs.EndCloses.{IsAllBack, acked_back, managed_back}
+use Rattle.tau_crew.specs.EndCloses.{IsAllBack}
+use Rattle.tau_crew.proofs.EndCloses.{acked_back, managed_back}
 use Rattle.tau_crew.specs.EndDone.{ClosesDone, IsDone, NoneShort, durable_in, durables}
 use Rattle.tau_crew.specs.EndJoins.{KeepsHead, writer_in}
 use Rattle.tau_crew.proofs.EndBack.{keeps_ran, worker_same}

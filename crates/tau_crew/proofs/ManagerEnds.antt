@@ -18,7 +18,8 @@ use Rattle.tau_desk.specs.Manages.{managed_in}
 use Rattle.tau_desk.specs.Seats.{Manages, PlainManagerSeat}
 use Rattle.tau_crew_facts.specs.Closing.{EndsBy, ManagerDone, ManagerKnows}
 use Rattle.tau_crew_facts.specs.Spacing.{IsSpacing, newest}
-use Rattle.tau_crew_facts.specs.Writers.{AllBecameDurable, CountsNow, HasWritten, IsDurableSince, IsManaging, OnlyNow, SeenNow}
+use Rattle.tau_crew_facts.specs.Writers.{AllBecameDurable, HasWritten, IsDurableSince, IsManaging}
+use Rattle.tau_crew_facts.proofs.DiskLaws.{CountsNow, OnlyNow, SeenNow}
 use Rattle.tau_crew_facts.proofs.ManagerWriter.{begins, entry_moves, stored_kept}
 use Rattle.tau_crew_facts.proofs.Spacing.{spacing_begins}
 use Rattle.tau_crew.specs.Gathering.{AreLong, raised_in, stored_in, taken_in}

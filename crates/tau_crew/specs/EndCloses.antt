@@ -5,7 +5,7 @@ use Rattle.tau_disk.specs.declared.disk.Disk.{Ghosts}
 use Rattle.tau_stream.specs.declared.writer.Writer.{Writer}
 use Rattle.std.specs.Prelude.{map}
 use Rattle.tau_base.specs.Vectors.{AtMost}
-use Rattle.tau_machine.specs.State.{Core, Ticket}
+use Rattle.tau_machine.specs.State.{Core}
 use Rattle.tau_core.specs.Parts.{all_idle}
 use Rattle.tau_core.specs.Stands.{Stands}
 use Rattle.tau_core.specs.View.{Hidden, core_of}
@@ -13,20 +13,11 @@ use Rattle.tau_occ.specs.declared.style.Style.{Style}
 use Rattle.tau_crew_facts.specs.Ends.{IsThreadEnd}
 use Rattle.tau_crew.specs.Clerking.{all_told}
 use Rattle.tau_core.specs.State.{Plain}
-use Rattle.tau_rule.specs.Role.{Managed, managed_in_share}
-use Rattle.tau_rule.specs.Rule.{clerk_role, manager_role}
-use Rattle.tau_desk.specs.Manages.{acked_in_share}
 use Rattle.tau_desk.specs.Seats.{PlainHead}
 use Rattle.tau_crew.specs.declared.clerk.ClerkJob.{ClerkJob}
 use Rattle.tau_crew.specs.declared.manager.ManagerJob.{ManagerJob}
-use Rattle.tau_crew.specs.Ending.{AreManagersBack, IsClerkBack, IsHeadBack, role_back}
+use Rattle.tau_crew.specs.Ending.{AreManagersBack, IsClerkBack, IsHeadBack}
 use Rattle.tau_crew.specs.EndJoins.{HasClerkOf, HasManagers, SeesDurable, writer_in}
-
-abbrev pub managed_back : Plain → PlainHead → ℕ → Managed
-managed_back first h j = managed_in_share (role_back h (manager_role first.load j)).share
-
-abbrev pub acked_back : Plain → PlainHead → List (List Ticket)
-acked_back first h = acked_in_share (role_back h (clerk_role first.load)).share
 
 pub record IsAllBack {D : Type 0} {G : Ghosts D} (first : Plain) (table : TableId) (bases : ℕ → List ℕ) (ws : List (Writer D G)) (h : PlainHead) (jobs : List (ManagerJob D G)) (telling : ClerkJob) : Type 0 where
   pub head : IsHeadBack first table h

@@ -10,7 +10,8 @@ use Rattle.tau_outbox.specs.Pieces.{bytes_of}
 use Rattle.tau_stream.specs.declared.writer.Writer.{Writer}
 use Rattle.tau_stream.specs.Stream.{IsOldOrNew}
 use Rattle.tau_stream.specs.Writer.{disk_of, durable_of, has_failed, part_upto, IsReady}
-use Rattle.tau_crew_facts.specs.Writers.{AllBecameDurable, BecameDurable, CountsNow, HasLong, HasWritten, IsCurrent, IsManaging, OnlyNow}
+use Rattle.tau_crew_facts.specs.Writers.{AllBecameDurable, BecameDurable, HasLong, HasWritten, IsCurrent, IsManaging}
+use Rattle.tau_crew_facts.proofs.DiskLaws.{CountsNow, OnlyNow}
 
 module _ {D : Type 0} {G : Ghosts D} (format : Format) (n j : ℕ) where
   -- it stays durable if each new image holds as much

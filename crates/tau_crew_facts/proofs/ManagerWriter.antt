@@ -14,7 +14,15 @@ use Rattle.tau_outbox.specs.Pieces.{bytes_of}
 use Rattle.tau_stream.specs.declared.writer.Writer.{Writer}
 use Rattle.tau_stream.specs.Stream.{IsSettled, IsOldOrNew, MayHold}
 use Rattle.tau_stream.specs.Writer.{disk_of, durable_of, left_of, has_failed, part_upto, IsReady}
-use Rattle.tau_crew_facts.specs.Writers.{HasPieces, HasEnough, HasLong, SeenNow, CountsNow, OnlyNow, HasWritten, IsCurrent, IsManaging, IsFresh}
+use Rattle.tau_crew_facts.specs.Writers.{HasPieces, HasEnough, HasLong, HasWritten, IsCurrent, IsManaging}
+use Rattle.tau_crew_facts.proofs.DiskLaws.{SeenNow, CountsNow, OnlyNow}
+
+-- as a writer is handed to a manager: the base is durable, and nothing else was added
+pub record IsFresh {D : Type 0} {G : Ghosts D} (format : Format) (n j : ℕ) (base : List ℕ) (w : Writer D G) : Type 0 where
+  pub works : has_failed w ≡ false
+  pub durable : durable_of w ≡ length base
+  pub none : left_of w ≡ bytes_of []
+  pub ready : G.tells → IsReady format n j w base
 
 -- ---- bytes of pieces
 

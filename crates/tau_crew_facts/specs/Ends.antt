@@ -3,7 +3,6 @@ use Rattle.std.specs.Prelude.{ℕ, ◌<◌, ◌≤◌, ◌≡◌, ◌==◌, fals
 use Rattle.std.specs.List.{filter}
 use Rattle.tau_base.specs.Modes.{format_of}
 use Rattle.tau_base.specs.Vectors.{AtMost, covers}
-use Rattle.tau_disk.specs.Disk.{Rose}
 use Rattle.tau_disk.specs.declared.disk.Disk.{Ghosts}
 use Rattle.tau_stream.specs.declared.writer.Writer.{Writer}
 use Rattle.tau_stream.specs.Writer.{disk_of, has_failed, IsReady}
@@ -83,20 +82,6 @@ pub record IsThreadDone {D : Type 0} {G : Ghosts D} (l : Load) (c : Core) (ws' :
   pub flushed : (j : ℕ) (w' : Writer D G) → slice_get ws' j ≡ Some w' → has_failed w' ≡ false → slice_index c.plv j ≡ slice_index c.ends j
   pub told : (w : ℕ) → filter (λ (k : Ticket). covers c.plv k.lv) (c.outboxes w).pending ≡ []
   pub done : ((j : ℕ) (w' : Writer D G) → slice_get ws' j ≡ Some w' → has_failed w' ≡ false) → (w : ℕ) → ((c.workers w).waiting ≡ []) × ((c.workers w).left ≡ [])
-
--- ---- what stops may leave, over the writers of a run
-
-abbrev pub OfWriters : {W : Type 0} → (W → W → Type 0) → List W → List W → ℕ → Type 0
-OfWriters {W} R old new j = (w : W) × (w' : W) × (slice_get old j ≡ Some w) × (slice_get new j ≡ Some w') × R w w'
-
-abbrev pub PastOf : {D : Type 0} {G : Ghosts D} → List (Writer D G) → List (Writer D G) → ℕ → List ℕ → Type 0
-PastOf {D} {G} ws ws' j x = OfWriters (λ w w'. G.tells × G.may_leave_since (disk_of w') (G.moment (disk_of w)) x) ws ws' j
-
-abbrev pub NowOf : {D : Type 0} {G : Ghosts D} → List (Writer D G) → List (Writer D G) → ℕ → List ℕ → Type 0
-NowOf {D} {G} ws ws' j x = OfWriters (λ w w'. G.tells × G.may_leave (disk_of w') x) ws ws' j
-
-abbrev pub RoseOf : {D : Type 0} {G : Ghosts D} → List (Writer D G) → List (Writer D G) → ℕ → Type 0
-RoseOf {D} {G} ws ws' j = OfWriters (λ w w'. Rose (G.faults (disk_of w)) (G.faults (disk_of w'))) ws ws' j
 
 -- ---- anchors
 

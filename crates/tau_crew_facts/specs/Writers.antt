@@ -1,5 +1,5 @@
 -- The disk of a manager on its way, apart from any state of the core: what its images hold of the pieces that it has gathered.
-use Rattle.std.specs.Prelude.{ℕ, ◌+◌, ◌≤◌, ◌≡◌, true, false, List, [], ◌++◌, length}
+use Rattle.std.specs.Prelude.{ℕ, ◌+◌, ◌≤◌, ◌≡◌, true, false, List, ◌++◌, length}
 use Rattle.tau_base.specs.declared.format.Format.{Format}
 use Rattle.tau_block.specs.Image.{HasContent}
 use Rattle.tau_disk.specs.Disk.{Passes, Rose}
@@ -39,16 +39,6 @@ BecameDurable {D} G format n j d upto = (moment : ℕ) × (moment ≤ G.moment d
 abbrev pub AllBecameDurable : {D : Type 0} → Ghosts D → Format → ℕ → ℕ → D → List ℕ → Type 0
 AllBecameDurable {D} G format n j d stored = (upto : ℕ) → Member upto stored → BecameDurable G format n j d upto
 
--- the laws of a disk, as its trait has them
-abbrev pub SeenNow : {D : Type 0} → Ghosts D → Type 0
-SeenNow {D} G = (d : D) → G.tells → G.may_leave d (G.seen d)
-
-abbrev pub CountsNow : {D : Type 0} → Ghosts D → Type 0
-CountsNow {D} G = (d : D) (t : ℕ) (x : List ℕ) → t ≤ G.moment d → G.may_leave d x → G.may_leave_since d t x
-
-abbrev pub OnlyNow : {D : Type 0} → Ghosts D → Type 0
-OnlyNow {D} G = (d : D) (x : List ℕ) → G.may_leave_since d (G.moment d) x → G.may_leave d x
-
 module _ {D : Type 0} {G : Ghosts D} (format : Format) (n j : ℕ) (base : List ℕ) where
   -- What became of the writer of a stream whose manager has gathered these pieces and stored this position: w is the writer at
   -- the entry, w' now. It speaks of no state of the core.
@@ -77,10 +67,3 @@ module _ {D : Type 0} {G : Ghosts D} (format : Format) (n j : ℕ) (base : List 
   pub record IsManaging (taken : List Piece) (w w' : Writer D G) : Type 0 where
     pub managed : HasWritten taken (durable_of w') w w'
     pub current : has_failed w' ≡ false → IsCurrent taken w'
-
-  -- as a writer is handed to a manager: the base is durable, and nothing else was added
-  pub record IsFresh (w : Writer D G) : Type 0 where
-    pub works : has_failed w ≡ false
-    pub durable : durable_of w ≡ length base
-    pub none : left_of w ≡ bytes_of []
-    pub ready : G.tells → IsReady format n j w base
