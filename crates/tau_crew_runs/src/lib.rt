@@ -3,4 +3,6 @@
 #![tactic(auto)]
 
 #[cfg(test)]
+mod styles;
+#[cfg(test)]
 mod tests;

@@ -16,6 +16,7 @@ use tau_core::Opening;
 use tau_crew::{run_threads, run_threads_from};
 use tau_disk::{MemDisk, MemSink, Quiet};
 use tau_model::Tables;
+use tau_occ::Style;
 use tau_open::open_streams;
 use tau_report::{RunEnd, report_text};
 use tau_scan::{count_anchors, scan};
@@ -38,7 +39,7 @@ fn two_disks(alloc: Global) -> Result<Vec<MemDisk>, Fail>
 }
 
 /// Two streams, just created for the workload.
-fn created(alloc: Global, load: &Workload) -> Result<Vec<Writer<MemDisk>>, Fail>
+pub(crate) fn created(alloc: Global, load: &Workload) -> Result<Vec<Writer<MemDisk>>, Fail>
     ensures count { IfOk result (λ writers. vec_len writers ≡ 2) }
     ensures text { OnOk result (length (declarations_text load.now.declarations) ≤ MAX_CATALOGUE) }
     ensures fresh { IfOk result (λ writers. AreNew One (λ j. catalogue_of load.now) writers.items) }
@@ -79,13 +80,32 @@ fn opening(alloc: Global, end: u64, count: u32) -> Opening
     }
 }
 
-/// Runs the workload with one worker on two streams that were just created for it, the first of which is said to have so many
-/// anchors.
-fn run_from<R: Threads + Wait + Sync>(
+/// How a run goes.
+#[derive(Clone, Copy)]
+pub(crate) struct Way {
+    /// How many anchors the first stream is said to have.
+    pub anchors: u32,
+    pub workers: u8,
+    pub style: Style,
+}
+
+/// One worker in the style Locking.
+fn alone(anchors: u32) -> Way
+    ensures { result ≡ record { anchors = anchors; workers = 1; style = Style.Locking } }
+{
+    Way {
+        anchors,
+        workers: 1,
+        style: Style::Locking,
+    }
+}
+
+/// Runs the workload on two streams that were just created for it.
+pub(crate) fn run_from<R: Threads + Wait + Sync>(
     rt: &R,
     alloc: Global,
     load: &Workload,
-    count: u32,
+    way: Way,
     writers: &mut Vec<Writer<MemDisk>>,
     sink: &mut MemSink,
 ) -> Result<RunEnd, Fail>
@@ -93,19 +113,22 @@ fn run_from<R: Threads + Wait + Sync>(
     requires text { length (declarations_text load.now.declarations) ≤ MAX_CATALOGUE }
     requires two { vec_len writers.old ≡ 2 }
     requires fresh { AreNew One (λ j. catalogue_of load.now) writers.old.items }
+    requires some { 1 ≤ way.workers }
+    requires few { way.workers ≤ 16 }
     ensures two { vec_len writers.new ≡ 2 }
 {
-    let opening = opening(alloc, writers[0].durable(), count);
+    let opening = opening(alloc, writers[0].durable(), way.anchors);
     match run_threads_from(
         rt,
         alloc,
         load,
         opening,
-        1,
+        way.workers,
         LogMode::Values,
         writers,
         sink,
         &Quiet,
+        way.style,
     ) {
         Ok(end) => Ok(end),
         Err(_) => Err("out of memory".into()),
@@ -113,7 +136,12 @@ fn run_from<R: Threads + Wait + Sync>(
 }
 
 /// All that was told.
-fn told(alloc: Global, load: &Workload, end: &RunEnd, sink: &MemSink) -> Result<Vec<u8>, Fail> {
+pub(crate) fn told(
+    alloc: Global,
+    load: &Workload,
+    end: &RunEnd,
+    sink: &MemSink,
+) -> Result<Vec<u8>, Fail> {
     let rest = report_text(alloc, &load.declarations, &end.report, end.disk)?;
     let mut text = sink.bytes().to_vec(alloc)?;
     text.extend_from_slice(&rest)?;
@@ -158,7 +186,7 @@ fn from_an_opening(rt: HostRuntime) -> Result<(), Fail> {
         Err(fail) => return Err(fail),
     };
     let mut sink = MemSink::new(alloc, &[])?;
-    let end = run_from(&rt, alloc, &load, 0, &mut writers, &mut sink)?;
+    let end = run_from(&rt, alloc, &load, alone(0), &mut writers, &mut sink)?;
     assert!(rt; told(alloc, &load, &end, &sink)?.as_slice() == REPORT);
     Ok(())
 }
@@ -212,7 +240,7 @@ fn a_full_stream_gets_no_anchor(rt: HostRuntime) -> Result<(), Fail> {
             Err(fail) => return Err(fail),
         };
         let mut sink = MemSink::new(alloc, &[])?;
-        let end = run_from(&rt, alloc, &load, before, &mut writers, &mut sink)?;
+        let end = run_from(&rt, alloc, &load, alone(before), &mut writers, &mut sink)?;
         assert!(rt; end.disk == None && !end.sink_failed);
         assert_eq!(rt; end.report.acks.len(), 15);
         assert_eq!(rt;

@@ -17,5 +17,5 @@ run_threads_from-requires-clause-begun g c κs lives =
     let first : slice_get writers.items 0 ≡ Some c.index.result.now = slice_get_read writers.items (length writers.items) 0 c.index.result.now refl within c.index.ensures in
     let size : length (catalogue_of c.args.load.now) ≡ c.durable.result = sym (c.durable.ensures ∙ (c.requires.fresh 0 c.index.result.now first).durable) in (
       (λ j. catalogue_of c.args.load.now),
-      begun c.opening-opening.result c.durable.result c.args.count c.opening-opening.ensures.ends c.args.load.now writers.items c.requires.fresh two size,
+      begun c.opening-opening.result c.durable.result c.args.way.anchors c.opening-opening.ensures.ends c.args.load.now writers.items c.requires.fresh two size,
     )
