@@ -1,4 +1,6 @@
-// The contents that a log is read from, against values worked out by hand.
+//! The contents that a log is read from, against values worked out by hand.
+use crate::images::{APART, Image, WIDE, bytes_of};
+use crate::logs::{disks_of, is_vector};
 use std::alloc::Global;
 use std::process::Abort;
 use std::test::*;
@@ -7,139 +9,146 @@ use tau_block::Content;
 use tau_disk::MemDisk;
 use tau_scan::{Log, scan_contents};
 
-// The header of stream 0 of two in format 2; the catalogue of `table a`, 13 bytes, behind its gate at 16; `put a 1 5`,
-// 42 bytes, behind its gate at 34; a closed gate at 81.
-static WIDE: [u8; 82] = [
-    84, 65, 85, 82, 85, 83, 45, 76, 79, 71, 45, 50, 0, 2, 0, 0, 1, 0, 0, 0, 13, 4, 0, 0, 0, 13,
-    116, 97, 98, 108, 101, 32, 97, 10, 1, 0, 0, 0, 42, 1, 0, 0, 0, 42, 0, 0, 0, 0, 0, 0, 0, 1, 0,
-    0, 0, 0, 0, 0, 0, 0, 0, 1, 0, 0, 0, 0, 0, 0, 0, 0, 0, 1, 1, 0, 0, 0, 0, 0, 0, 0, 5, 0,
-];
+/// The catalogue of `table a` alone.
+const CATALOGUE: &str = "04 0000000d 7461626c6520610a";
 
-// The two records of it.
-static WIDE_BYTES: [u8; 55] = [
-    4, 0, 0, 0, 13, 116, 97, 98, 108, 101, 32, 97, 10, 1, 0, 0, 0, 42, 0, 0, 0, 0, 0, 0, 0, 1, 0,
-    0, 0, 0, 0, 0, 0, 0, 0, 1, 0, 0, 0, 0, 0, 0, 0, 0, 0, 1, 1, 0, 0, 0, 0, 0, 0, 0, 5,
-];
+/// The two records of stream 0 in format 2, behind its gates at 16 and 34; a closed gate stands at 81.
+const WIDE_BYTES: &str = "04 0000000d 7461626c6520610a \
+    01 0000002a 0000000000000001 00000000 00000000 0001 0000 0000000000000001 01 0000000000000005";
 
-// The header of stream 1 of two in format 1; the catalogue of `table a` behind its gate at 16; `put a 2 6`, 40 bytes,
-// behind its gate at 34; a closed gate at 79.
-static NARROW: [u8; 80] = [
-    84, 65, 85, 82, 85, 83, 45, 76, 79, 71, 45, 49, 0, 2, 0, 1, 1, 0, 0, 0, 13, 4, 0, 0, 0, 13,
-    116, 97, 98, 108, 101, 32, 97, 10, 1, 0, 0, 0, 40, 1, 0, 0, 0, 40, 0, 0, 0, 0, 0, 0, 0, 2, 0,
-    0, 0, 0, 0, 0, 0, 1, 0, 0, 0, 0, 0, 0, 0, 0, 0, 2, 1, 0, 0, 0, 0, 0, 0, 0, 6, 0,
-];
+/// The two records of stream 1 in format 1, behind its gates at 16 and 34; a closed gate stands at 79.
+const NARROW_BYTES: &str = "04 0000000d 7461626c6520610a \
+    01 00000028 0000000000000002 00000000 0000 0001 0000 0000000000000002 01 0000000000000006";
 
-// The two records of it.
-static NARROW_BYTES: [u8; 53] = [
-    4, 0, 0, 0, 13, 116, 97, 98, 108, 101, 32, 97, 10, 1, 0, 0, 0, 40, 0, 0, 0, 0, 0, 0, 0, 2, 0,
-    0, 0, 0, 0, 0, 0, 1, 0, 0, 0, 0, 0, 0, 0, 0, 0, 2, 1, 0, 0, 0, 0, 0, 0, 0, 6,
-];
+/// Of a stream of two: the format of a born one, the bytes, and where the closed gate stands.
+type Held = (Option<Format>, &'static str, u64);
 
-// The log of two streams with these images, and its contents.
-fn read_two(
+/// In words what it is, the images, where the streams end, and what they hold.
+type Row = (
+    &'static str,
+    &'static [Image<'static>],
+    &'static [u64],
+    &'static [Held],
+);
+
+/// The log of these disks and its contents, when a format is asked, or none.
+fn read(
     alloc: Global,
-    first: &[u8],
-    second: &[u8],
+    disks: &mut [MemDisk],
     asked: Option<Format>,
 ) -> Result<(Log, Vec<Content>), Fail> {
-    let mut disks = vec![in alloc;
-        MemDisk::of_image(alloc, first)?,
-        MemDisk::of_image(alloc, second)?,
-    ]?;
-    match scan_contents(alloc, disks.as_mut_slice(), asked) {
+    if disks.is_empty() || disks.len() > 16 {
+        return Err(Fail::from("no number of streams"));
+    }
+    match scan_contents(alloc, disks, asked) {
         Ok(read) => Ok(read),
         Err(_) => Err(Fail::from("no log")),
     }
 }
 
-// Checks the content of a stream of two: the format of a born one, the bytes, and where the closed gate stands.
-fn is(
-    rt: &impl Abort,
-    contents: &[Content],
-    j: usize,
-    format: Option<Format>,
-    bytes: &[u8],
-    gate_at: u64,
-) -> Result<(), Fail> {
-    let count = match format {
+fn count_of(format: Option<Format>) -> Option<u16> {
+    match format {
         None => None,
         Some(_) => Some(2),
-    };
-    match contents.get(j) {
-        None => Err(Fail::from("too few contents")),
-        Some(content) => {
-            assert!(rt; content.format == format);
-            assert_eq!(rt; content.count, count);
-            assert!(rt; content.bytes.as_slice() == bytes);
-            assert_eq!(rt; content.gate_at, gate_at);
-            Ok(())
-        }
     }
 }
 
-#[test]
-fn a_log_of_format_2_has_its_contents(rt: HostRuntime) -> Result<(), Fail> {
-    let alloc = rt.alloc();
-    for asked in [None, Some(Format::Two)] {
-        let (log, contents) = read_two(alloc, &WIDE, &WIDE[..17], asked)?;
-        assert!(rt; log.elv.as_slice() == [55, 0].as_slice());
-        assert_eq!(rt; contents.len(), 2);
-        is(&rt, &contents, 0, Some(Format::Two), &WIDE_BYTES, 81)?;
-        is(&rt, &contents, 1, None, &[], 16)?;
+fn holds(
+    rt: &impl Abort,
+    alloc: Global,
+    name: &str,
+    content: &Content,
+    held: &Held,
+) -> Result<(), Fail> {
+    let found = (content.format, content.count, content.gate_at);
+    assert_eq!(rt; found, (held.0, count_of(held.0), held.2), "{name}");
+    let bytes = bytes_of(alloc, held.1)?;
+    assert_eq!(rt; content.bytes.as_slice(), bytes.as_slice(), "{name}");
+    Ok(())
+}
+
+fn hold(
+    rt: &impl Abort,
+    alloc: Global,
+    name: &str,
+    contents: &[Content],
+    all: &[Held],
+) -> Result<(), Fail> {
+    assert_eq!(rt; contents.len(), all.len(), "{name}");
+    for (content, held) in contents.iter().zip(all.iter()) {
+        holds(rt, alloc, name, content, held)?;
     }
     Ok(())
 }
 
-#[test]
-fn a_log_of_format_1_has_its_contents(rt: HostRuntime) -> Result<(), Fail> {
-    let alloc = rt.alloc();
-    for asked in [None, Some(Format::One)] {
-        let (log, contents) = read_two(alloc, b"", &NARROW, asked)?;
-        assert!(rt; log.elv.as_slice() == [0, 53].as_slice());
-        assert_eq!(rt; contents.len(), 2);
-        is(&rt, &contents, 0, None, &[], 16)?;
-        is(&rt, &contents, 1, Some(Format::One), &NARROW_BYTES, 79)?;
+/// Checks each row when this format is asked, or none.
+fn have_contents(
+    rt: &impl Abort,
+    alloc: Global,
+    asked: Option<Format>,
+    rows: &[Row],
+) -> Result<(), Fail> {
+    for (name, images, ends, all) in rows {
+        let mut disks = disks_of(alloc, images)?;
+        let (log, contents) = read(alloc, disks.as_mut_slice(), asked)?;
+        is_vector(rt, name, log.elv.as_slice(), ends);
+        hold(rt, alloc, name, contents.as_slice(), all)?;
     }
     Ok(())
 }
 
-// Nothing after a gate that does not read 1 is content.
-#[test]
-fn a_content_ends_at_a_closed_gate(rt: HostRuntime) -> Result<(), Fail> {
-    let alloc = rt.alloc();
-    let mut cut = NARROW;
-    cut[34] = 2;
-    let mut other = cut;
-    other[15] = 0;
-    let (log, contents) = read_two(alloc, &other, &NARROW, None)?;
-    assert!(rt; log.elv.as_slice() == [13, 53].as_slice());
-    is(
-        &rt,
-        &contents,
-        0,
-        Some(Format::One),
-        &NARROW_BYTES[..13],
-        34,
-    )?;
-    is(&rt, &contents, 1, Some(Format::One), &NARROW_BYTES, 79)?;
-    let (log, contents) = read_two(alloc, &other, &cut, None)?;
-    assert!(rt; log.elv.as_slice() == [13, 13].as_slice());
-    is(
-        &rt,
-        &contents,
-        1,
-        Some(Format::One),
-        &NARROW_BYTES[..13],
-        34,
-    )
-}
+static WIDE_LOGS: [Row; 1] = [(
+    "a log of format 2 beside the front of itself",
+    &[Image::Whole(WIDE), Image::Front(WIDE, 17)],
+    &[55, 0],
+    &[(Some(Format::Two), WIDE_BYTES, 81), (None, "", 16)],
+)];
+
+static NARROW_LOGS: [Row; 1] = [(
+    "a log of format 1 beside an empty disk",
+    &[Image::Whole(""), Image::Whole(APART)],
+    &[0, 53],
+    &[(None, "", 16), (Some(Format::One), NARROW_BYTES, 79)],
+)];
+
+static LOGS: [Row; 3] = [
+    (
+        "nothing after a gate that reads 2 is content, in the first stream",
+        &[
+            Image::Bytes(APART, &[(15, 0), (34, 2)]),
+            Image::Whole(APART),
+        ],
+        &[13, 53],
+        &[
+            (Some(Format::One), CATALOGUE, 34),
+            (Some(Format::One), NARROW_BYTES, 79),
+        ],
+    ),
+    (
+        "nothing after a gate that reads 2 is content, in both streams",
+        &[
+            Image::Bytes(APART, &[(15, 0), (34, 2)]),
+            Image::Byte(APART, 34, 2),
+        ],
+        &[13, 13],
+        &[
+            (Some(Format::One), CATALOGUE, 34),
+            (Some(Format::One), CATALOGUE, 34),
+        ],
+    ),
+    (
+        "unborn streams",
+        &[Image::Front(APART, 17), Image::Whole("")],
+        &[0, 0],
+        &[(None, "", 16), (None, "", 16)],
+    ),
+];
 
 #[test]
-fn unborn_streams_have_no_content(rt: HostRuntime) -> Result<(), Fail> {
-    let alloc = rt.alloc();
-    let (log, contents) = read_two(alloc, &NARROW[..17], b"", None)?;
-    assert!(rt; log.elv.as_slice() == [0, 0].as_slice());
-    assert_eq!(rt; contents.len(), 2);
-    is(&rt, &contents, 0, None, &[], 16)?;
-    is(&rt, &contents, 1, None, &[], 16)
+fn logs_have_their_contents(rt: HostRuntime) -> Result<(), Fail> {
+    have_contents(&rt, rt.alloc(), None, &WIDE_LOGS)?;
+    have_contents(&rt, rt.alloc(), Some(Format::Two), &WIDE_LOGS)?;
+    have_contents(&rt, rt.alloc(), None, &NARROW_LOGS)?;
+    have_contents(&rt, rt.alloc(), Some(Format::One), &NARROW_LOGS)?;
+    have_contents(&rt, rt.alloc(), None, &LOGS)
 }

@@ -8,6 +8,10 @@ mod edges;
 #[cfg(test)]
 mod epochs;
 #[cfg(test)]
+mod images;
+#[cfg(test)]
+mod logs;
+#[cfg(test)]
 mod pool;
 #[cfg(test)]
 mod report;

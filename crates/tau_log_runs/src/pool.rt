@@ -1,61 +1,45 @@
 ghost use Rattle.std.specs.Prelude.{IfOk};
 ghost use Rattle.tau_scan.specs.Reading.{IsLog};
 
+use crate::epochs::{FIRST_AGAIN, SECOND_AGAIN};
+use crate::images::{APART, Image};
+use crate::logs::disks_of;
 use std::alloc::Global;
 use std::process::Abort;
 use std::test::*;
-use tau_disk::MemDisk;
 use tau_pool::{Next, Pools};
 use tau_scan::{Log, scan};
 
-// Stream 0 of two: `put a 1 5` with vector (0,53) at 13, and `put a 3 7` with vector (0,0) at 61.
-static FIRST: [u8; 128] = [
-    84, 65, 85, 82, 85, 83, 45, 76, 79, 71, 45, 49, 0, 2, 0, 0, 1, 0, 0, 0, 13, 4, 0, 0, 0, 13,
-    116, 97, 98, 108, 101, 32, 97, 10, 1, 0, 0, 0, 88, 1, 0, 0, 0, 48, 0, 0, 0, 0, 0, 0, 0, 1, 0,
-    0, 0, 0, 0, 2, 0, 0, 0, 0, 0, 0, 0, 53, 0, 1, 0, 0, 0, 0, 0, 0, 0, 0, 0, 1, 1, 0, 0, 0, 0, 0,
-    0, 0, 5, 1, 0, 0, 0, 40, 0, 0, 0, 0, 0, 0, 0, 3, 0, 0, 0, 0, 0, 0, 0, 1, 0, 0, 0, 0, 0, 0, 0,
-    0, 0, 3, 1, 0, 0, 0, 0, 0, 0, 0, 7, 0,
-];
+/// Stream 0 of two: `put a 1 5` with vector (0,53) at 13, and `put a 3 7` with vector (0,0) at 61.
+const FIRST: &str = "5441555255532d4c4f472d31 0002 0000 01 0000000d 04 0000000d 7461626c6520610a \
+    01 00000058 01 00000030 0000000000000001 00000000 0002 0000000000000035 0001 0000 0000000000000001 01 0000000000000005 \
+    01 00000028 0000000000000003 00000000 0000 0001 0000 0000000000000003 01 0000000000000007 00";
 
-// Stream 1 of two: `put a 2 6` with vector (0,0) at 13.
-static SECOND: [u8; 80] = [
-    84, 65, 85, 82, 85, 83, 45, 76, 79, 71, 45, 49, 0, 2, 0, 1, 1, 0, 0, 0, 13, 4, 0, 0, 0, 13,
-    116, 97, 98, 108, 101, 32, 97, 10, 1, 0, 0, 0, 40, 1, 0, 0, 0, 40, 0, 0, 0, 0, 0, 0, 0, 2, 0,
-    0, 0, 0, 0, 0, 0, 1, 0, 0, 0, 0, 0, 0, 0, 0, 0, 2, 1, 0, 0, 0, 0, 0, 0, 0, 6, 0,
-];
+/// Stream 0 of two: a record at 13 that waits for the end of the other stream.
+const TANGLED: &str = "5441555255532d4c4f472d31 0002 0000 01 0000000d 04 0000000d 7461626c6520610a \
+    01 00000030 01 00000030 0000000000000001 00000000 0002 000000000000003d 0001 0000 0000000000000001 01 0000000000000005 00";
 
-// Stream 0 of two: a record at 13 that waits for the end of the other stream.
-static TANGLED: [u8; 88] = [
-    84, 65, 85, 82, 85, 83, 45, 76, 79, 71, 45, 49, 0, 2, 0, 0, 1, 0, 0, 0, 13, 4, 0, 0, 0, 13,
-    116, 97, 98, 108, 101, 32, 97, 10, 1, 0, 0, 0, 48, 1, 0, 0, 0, 48, 0, 0, 0, 0, 0, 0, 0, 1, 0,
-    0, 0, 0, 0, 2, 0, 0, 0, 0, 0, 0, 0, 61, 0, 1, 0, 0, 0, 0, 0, 0, 0, 0, 0, 1, 1, 0, 0, 0, 0, 0,
-    0, 0, 5, 0,
-];
+/// Stream 1 of two: likewise.
+const TANGLED_TOO: &str =
+    "5441555255532d4c4f472d31 0002 0001 01 0000000d 04 0000000d 7461626c6520610a \
+    01 00000030 01 00000030 0000000000000002 00000000 0001 000000000000003d 0001 0000 0000000000000002 01 0000000000000006 00";
 
-// Stream 1 of two: likewise.
-static TANGLED_TOO: [u8; 88] = [
-    84, 65, 85, 82, 85, 83, 45, 76, 79, 71, 45, 49, 0, 2, 0, 1, 1, 0, 0, 0, 13, 4, 0, 0, 0, 13,
-    116, 97, 98, 108, 101, 32, 97, 10, 1, 0, 0, 0, 48, 1, 0, 0, 0, 48, 0, 0, 0, 0, 0, 0, 0, 2, 0,
-    0, 0, 0, 0, 1, 0, 0, 0, 0, 0, 0, 0, 61, 0, 1, 0, 0, 0, 0, 0, 0, 0, 0, 0, 2, 1, 0, 0, 0, 0, 0,
-    0, 0, 6, 0,
-];
-
-// The log of these two images.
-fn log_of(alloc: Global, first: &[u8], second: &[u8]) -> Result<Log, Fail>
+/// The log of two streams with these digits.
+fn log_of(alloc: Global, first: &str, second: &str) -> Result<Log, Fail>
     ensures { IfOk result (λ log. IsLog log) }
 {
-    let mut disks = vec![in alloc;
-        MemDisk::of_image(alloc, first)?,
-        MemDisk::of_image(alloc, second)?,
-    ]?;
+    let mut disks = disks_of(alloc, &[Image::Whole(first), Image::Whole(second)])?;
+    if disks.is_empty() || disks.len() > 32 {
+        return Err(Fail::from("no number of streams"));
+    }
     match scan(alloc, disks.as_mut_slice(), None) {
         Ok(log) => Ok(log),
         Err(_) => Err(Fail::from("no log")),
     }
 }
 
-// The pools of the log of these two images.
-fn pools_of(alloc: Global, first: &[u8], second: &[u8]) -> Result<Pools, Fail> {
+/// The pools of this log.
+fn pools_of(alloc: Global, first: &str, second: &str) -> Result<Pools, Fail> {
     let log = log_of(alloc, first, second)?;
     match Pools::new(alloc, &log) {
         Ok(pools) => Ok(pools),
@@ -63,12 +47,12 @@ fn pools_of(alloc: Global, first: &[u8], second: &[u8]) -> Result<Pools, Fail> {
     }
 }
 
-// Checks how far each stream is recovered.
+/// Checks how far each stream is recovered.
 fn is_recovered(rt: &impl Abort, pools: &Pools, positions: [u64; 2]) {
     assert!(rt; pools.rlv().as_slice() == positions.as_slice());
 }
 
-// The stream and the index of the first record that is left; 255 and 0 where none is.
+/// The stream and the index of the first record that is left; 255 and 0 if none is.
 fn first_left(pools: &Pools) -> (u8, usize) {
     match pools.first_left() {
         Some(left) => (left.stream, left.index),
@@ -78,7 +62,7 @@ fn first_left(pools: &Pools) -> (u8, usize) {
 
 #[test]
 fn a_record_waits_for_another_stream(rt: HostRuntime) -> Result<(), Fail> {
-    let mut pools = pools_of(rt.alloc(), &FIRST, &SECOND)?;
+    let mut pools = pools_of(rt.alloc(), FIRST, APART)?;
     let Next::Taken(third) = pools.take() else {
         return Err(Fail::from("nothing is ready"));
     };
@@ -107,8 +91,16 @@ fn a_record_waits_for_another_stream(rt: HostRuntime) -> Result<(), Fail> {
 
 #[test]
 fn tangled_records_are_never_ready(rt: HostRuntime) -> Result<(), Fail> {
-    let mut pools = pools_of(rt.alloc(), &TANGLED, &TANGLED_TOO)?;
+    let mut pools = pools_of(rt.alloc(), TANGLED, TANGLED_TOO)?;
     assert_eq!(rt; pools.take(), Next::NotYet);
     assert_eq!(rt; first_left(&pools), (0, 1));
+    Ok(())
+}
+
+/// Two epochs of two streams: the first record of stream 0 that is taken starts at 38, and none of stream 1 is.
+#[test]
+fn pools_hold_what_is_taken(rt: HostRuntime) -> Result<(), Fail> {
+    let pools = pools_of(rt.alloc(), FIRST_AGAIN, SECOND_AGAIN)?;
+    is_recovered(&rt, &pools, [38, 111]);
     Ok(())
 }

@@ -101,98 +101,110 @@ fn report_of(
 }
 
 // Checks a text.
-fn is_text(rt: &impl Abort, text: &[u8], wanted: &[u8]) {
-    assert_eq!(rt; text, wanted);
+fn is_text(rt: &impl Abort, name: &str, text: &[u8], wanted: &[u8]) {
+    assert_eq!(rt; text, wanted, "{name}");
 }
 
-// Checks the text of a report over these declarations.
-fn reports(
-    rt: &impl Abort,
-    alloc: Global,
-    declarations: &[u8],
-    report: &RunReport,
-    disk: Option<u8>,
-    wanted: &[u8],
-) -> Result<(), Fail> {
-    let declarations = parse_declarations(alloc, declarations)?;
-    let text = report_text(alloc, &declarations, report, disk)?;
-    is_text(rt, text.as_slice(), wanted);
+/// A report: in words what it is, the declarations, what became of each call, the order of the calls, the rows, the stream
+/// whose disk failed, and the text.
+type Report = (
+    &'static str,
+    &'static str,
+    &'static [Row],
+    &'static [u64],
+    &'static [TableRow],
+    Option<u8>,
+    &'static str,
+);
+
+static REPORTS: [Report; 4] = [
+    ("nothing was called", "", &[], &[], &[], None, "end 0\n"),
+    (
+        "two calls on one row",
+        "table a\n",
+        &[Row::Acked(Told::Absent), Row::Acked(Told::Int(7))],
+        &[1, 2],
+        &[(0, 1, Told::Int(7))],
+        None,
+        "reply 1 none\nreply 2 int 7\norder 1\norder 2\nrow a 1 int 7\nend 0\n",
+    ),
+    (
+        "a disk fails",
+        "table a\n",
+        &[
+            Row::Acked(Told::Absent),
+            Row::Unsure(Told::Absent),
+            Row::Unrun,
+            Row::Unrun,
+        ],
+        &[1, 2],
+        &[(0, 1, Told::Int(5)), (0, 2, Told::Int(6))],
+        Some(1),
+        "reply 1 none\nunsure 2 none\nunrun 3\nunrun 4\norder 1\norder 2\nrow a 1 int 5\nrow a 2 int 6\nend 6 1\n",
+    ),
+    (
+        "each kind of reply",
+        "table a\n",
+        &[
+            Row::Acked(Told::Refused(2)),
+            Row::Unsure(Told::Refused(64)),
+            Row::Acked(Told::Int(-9223372036854775808)),
+            Row::Acked(Told::Int(9223372036854775807)),
+            Row::Acked(Told::Text("")),
+            Row::Unsure(Told::Text("two  words")),
+        ],
+        &[6, 5, 4, 3, 200000],
+        &[],
+        Some(15),
+        "reply 1 refused 2\nunsure 2 refused 64\nreply 3 int -9223372036854775808\nreply 4 int 9223372036854775807\nreply 5 text \"\"\nunsure 6 text \"two  words\"\norder 6\norder 5\norder 4\norder 3\norder 200000\nend 6 15\n",
+    ),
+];
+
+#[test]
+fn reports_have_their_texts(rt: HostRuntime) -> Result<(), Fail> {
+    let alloc = rt.alloc();
+    for (name, declarations, fates, order, rows, disk, wanted) in &REPORTS {
+        let declarations = parse_declarations(alloc, declarations.as_bytes())?;
+        let report = report_of(alloc, fates, order, rows)?;
+        let text = report_text(alloc, &declarations, &report, *disk)?;
+        is_text(&rt, name, text.as_slice(), wanted.as_bytes());
+    }
     Ok(())
 }
 
-// Checks the text of tables over these declarations.
-fn shows(
-    rt: &impl Abort,
-    alloc: Global,
-    declarations: &[u8],
-    tables: &Tables,
-    wanted: &[u8],
-) -> Result<(), Fail> {
-    let declarations = parse_declarations(alloc, declarations)?;
-    let text = table_text(alloc, &declarations, tables)?;
-    is_text(rt, text.as_slice(), wanted);
+/// Tables: in words what they are, the declarations, the rows, and the text.
+type Shown = (
+    &'static str,
+    &'static str,
+    &'static [TableRow],
+    &'static str,
+);
+
+static SHOWN: [Shown; 2] = [
+    ("no row", "", &[], ""),
+    (
+        "rows of numbers and texts",
+        "table a\ntable long_name_of_16b\n",
+        &[
+            (0, -9223372036854775808, Told::Text("a b")),
+            (0, 0, Told::Int(0)),
+            (1, -1, Told::Text("\u{e9}")),
+            (1, 9223372036854775807, Told::Int(-5)),
+        ],
+        "row a -9223372036854775808 text \"a b\"\nrow a 0 int 0\nrow long_name_of_16b -1 text \"\u{e9}\"\nrow long_name_of_16b 9223372036854775807 int -5\n",
+    ),
+];
+
+#[test]
+fn tables_have_their_texts(rt: HostRuntime) -> Result<(), Fail> {
+    let alloc = rt.alloc();
+    for (name, declarations, rows, wanted) in &SHOWN {
+        let declarations = parse_declarations(alloc, declarations.as_bytes())?;
+        let tables = tables_of(alloc, rows)?;
+        let text = table_text(alloc, &declarations, &tables)?;
+        is_text(&rt, name, text.as_slice(), wanted.as_bytes());
+    }
     Ok(())
-}
-
-#[test]
-fn nothing_was_called(rt: HostRuntime) -> Result<(), Fail> {
-    let report = report_of(rt.alloc(), &[], &[], &[])?;
-    reports(&rt, rt.alloc(), b"", &report, None, b"end 0\n")?;
-    shows(&rt, rt.alloc(), b"", &report.tables, b"")
-}
-
-#[test]
-fn two_calls_on_one_row(rt: HostRuntime) -> Result<(), Fail> {
-    let fates = [Row::Acked(Told::Absent), Row::Acked(Told::Int(7))];
-    let report = report_of(rt.alloc(), &fates, &[1, 2], &[(0, 1, Told::Int(7))])?;
-    let wanted = b"reply 1 none\nreply 2 int 7\norder 1\norder 2\nrow a 1 int 7\nend 0\n";
-    reports(&rt, rt.alloc(), b"table a\n", &report, None, wanted)
-}
-
-#[test]
-fn a_disk_fails(rt: HostRuntime) -> Result<(), Fail> {
-    let fates = [
-        Row::Acked(Told::Absent),
-        Row::Unsure(Told::Absent),
-        Row::Unrun,
-        Row::Unrun,
-    ];
-    let rows = [(0, 1, Told::Int(5)), (0, 2, Told::Int(6))];
-    let report = report_of(rt.alloc(), &fates, &[1, 2], &rows)?;
-    let wanted =
-        b"reply 1 none\nunsure 2 none\nunrun 3\nunrun 4\norder 1\norder 2\nrow a 1 int 5\nrow a 2 int 6\nend 6 1\n";
-    reports(&rt, rt.alloc(), b"table a\n", &report, Some(1), wanted)
-}
-
-#[test]
-fn each_kind_of_reply(rt: HostRuntime) -> Result<(), Fail> {
-    let fates = [
-        Row::Acked(Told::Refused(2)),
-        Row::Unsure(Told::Refused(64)),
-        Row::Acked(Told::Int(-9223372036854775808)),
-        Row::Acked(Told::Int(9223372036854775807)),
-        Row::Acked(Told::Text("")),
-        Row::Unsure(Told::Text("two  words")),
-    ];
-    let report = report_of(rt.alloc(), &fates, &[6, 5, 4, 3, 200000], &[])?;
-    let wanted =
-        b"reply 1 refused 2\nunsure 2 refused 64\nreply 3 int -9223372036854775808\nreply 4 int 9223372036854775807\nreply 5 text \"\"\nunsure 6 text \"two  words\"\norder 6\norder 5\norder 4\norder 3\norder 200000\nend 6 15\n";
-    reports(&rt, rt.alloc(), b"table a\n", &report, Some(15), wanted)
-}
-
-#[test]
-fn rows_of_numbers_and_texts(rt: HostRuntime) -> Result<(), Fail> {
-    let rows = [
-        (0, -9223372036854775808, Told::Text("a b")),
-        (0, 0, Told::Int(0)),
-        (1, -1, Told::Text("\u{e9}")),
-        (1, 9223372036854775807, Told::Int(-5)),
-    ];
-    let tables = tables_of(rt.alloc(), &rows)?;
-    let declarations = b"table a\ntable long_name_of_16b\n";
-    let wanted =
-        b"row a -9223372036854775808 text \"a b\"\nrow a 0 int 0\nrow long_name_of_16b -1 text \"\xc3\xa9\"\nrow long_name_of_16b 9223372036854775807 int -5\n";
-    shows(&rt, rt.alloc(), declarations, &tables, wanted)
 }
 
 // The vector with these positions.
@@ -209,30 +221,31 @@ fn vector_of(positions: &[u64]) -> Result<Lv, Fail> {
     Ok(vector)
 }
 
-// Checks the line of an acknowledgement, whatever stood in the buffer.
-fn acknowledges(
-    rt: &impl Abort,
-    line: &mut Vec<u8>,
-    number: u64,
-    positions: &[u64],
-    wanted: &[u8],
-) -> Result<(), Fail> {
-    ack_line(line, number, &vector_of(positions)?)?;
-    is_text(rt, line.as_slice(), wanted);
-    Ok(())
-}
+/// Of an acknowledgement the call's number, its vector, and the line.
+static LINES: [(u64, &[u64], &str); 4] = [
+    (2, &[82, 77, 53], "ack 2 82,77,53\n"),
+    (1, &[0], "ack 1 0\n"),
+    (
+        200000,
+        &[0, 4611686018427387903],
+        "ack 200000 0,4611686018427387903\n",
+    ),
+    (
+        7,
+        &[13; 32],
+        "ack 7 13,13,13,13,13,13,13,13,13,13,13,13,13,13,13,13,13,13,13,13,13,13,13,13,13,13,13,13,13,13,13,13\n",
+    ),
+];
 
+/// Whatever stood in the buffer.
 #[test]
 fn acknowledgements(rt: HostRuntime) -> Result<(), Fail> {
     let mut line = Vec::from_slice(rt.alloc(), b"what stood there")?;
-    acknowledges(&rt, &mut line, 2, &[82, 77, 53], b"ack 2 82,77,53\n")?;
-    acknowledges(&rt, &mut line, 1, &[0], b"ack 1 0\n")?;
-    let far = [0, 4611686018427387903];
-    let wanted = b"ack 200000 0,4611686018427387903\n";
-    acknowledges(&rt, &mut line, 200000, &far, wanted)?;
-    let many =
-        b"ack 7 13,13,13,13,13,13,13,13,13,13,13,13,13,13,13,13,13,13,13,13,13,13,13,13,13,13,13,13,13,13,13,13\n";
-    acknowledges(&rt, &mut line, 7, &[13; 32], many)
+    for (number, positions, wanted) in &LINES {
+        ack_line(&mut line, *number, &vector_of(positions)?)?;
+        is_text(&rt, "a line", line.as_slice(), wanted.as_bytes());
+    }
+    Ok(())
 }
 
 // the catalogue of table a
@@ -310,35 +323,37 @@ fn log_of(
 fn recovers(
     rt: &impl Abort,
     alloc: Global,
+    name: &str,
     log: &Log,
     rows: &[TableRow],
     wanted: &[u8],
 ) -> Result<(), Fail> {
     let tables = tables_of(alloc, rows)?;
     let text = recover_text(alloc, log, &tables)?;
-    is_text(rt, text.as_slice(), wanted);
+    is_text(rt, name, text.as_slice(), wanted);
     let mut told = Vec::new(alloc);
     told.extend_from_slice(b"base 1\n")?;
     put_recovery(alloc, &mut told, log, &tables)?;
     let mut both = Vec::new(alloc);
     both.extend_from_slice(b"base 1\n")?;
     both.extend_from_slice(wanted)?;
-    is_text(rt, told.as_slice(), both.as_slice());
+    is_text(rt, name, told.as_slice(), both.as_slice());
     Ok(())
 }
 
 #[test]
 fn records_that_are_taken(rt: HostRuntime) -> Result<(), Fail> {
-    let first = first_stream(rt.alloc())?;
-    let log = log_of(rt.alloc(), [53, 61], first, second_stream(rt.alloc())?)?;
+    let alloc = rt.alloc();
+    let log = log_of(alloc, [53, 61], first_stream(alloc)?, second_stream(alloc)?)?;
     let wanted = b"elv 53,61\ntaken 0 13 1\ntaken 1 13 2\nrow a 1 int 7\nend 0\n";
-    recovers(&rt, rt.alloc(), &log, &[(0, 1, Told::Int(7))], wanted)
+    let rows = [(0, 1, Told::Int(7))];
+    recovers(&rt, alloc, "both are taken", &log, &rows, wanted)
 }
 
 // The record of call 2 is whole, but its vector (53,0) is not covered.
 #[test]
 fn a_record_that_is_not_covered(rt: HostRuntime) -> Result<(), Fail> {
-    let first = Listed::new(rt.alloc());
-    let log = log_of(rt.alloc(), [13, 61], first, second_stream(rt.alloc())?)?;
-    recovers(&rt, rt.alloc(), &log, &[], b"elv 13,61\nend 0\n")
+    let alloc = rt.alloc();
+    let log = log_of(alloc, [13, 61], Listed::new(alloc), second_stream(alloc)?)?;
+    recovers(&rt, alloc, "none", &log, &[], b"elv 13,61\nend 0\n")
 }

@@ -1,466 +1,273 @@
-use std::alloc::Global;
-use std::process::Abort;
+//! Logs of format 1, and every cause why there is none, against values worked out by hand.
+use crate::images::{APART, FIRST, Image, ONE};
+use crate::logs::{
+    ANCHOR, BODY, COUNT, Edge, FIRST_BODY, FIRST_KIND, Found, GATE, INDEX, KIND, LENGTH, MAGIC,
+    MASK, Row, SHORT, Streams, Told, are_read, have_causes,
+};
 use std::test::*;
-use tau_block::ImageFault;
-use tau_disk::MemDisk;
-use tau_record::{RecordCause, RecordFault};
-use tau_scan::{Log, LogCause, ScanRefusal, scan};
+use tau_scan::LogCause;
 
-// The log of a stream of one: the catalogue of `table a`, and the data record of `put a 1 5`.
-static LOG: [u8; 80] = [
-    84, 65, 85, 82, 85, 83, 45, 76, 79, 71, 45, 49, 0, 1, 0, 0, 1, 0, 0, 0, 13, 4, 0, 0, 0, 13,
-    116, 97, 98, 108, 101, 32, 97, 10, 1, 0, 0, 0, 40, 1, 0, 0, 0, 40, 0, 0, 0, 0, 0, 0, 0, 1, 0,
-    0, 0, 0, 0, 0, 0, 1, 0, 0, 0, 0, 0, 0, 0, 0, 0, 1, 1, 0, 0, 0, 0, 0, 0, 0, 5, 0,
+/// Stream 1 of two: `add a 1 2` at 13, whose vector is (53,0).
+const SECOND: &str = "5441555255532d4c4f472d31 0002 0001 01 0000000d 04 0000000d 7461626c6520610a \
+    01 00000030 01 00000030 0000000000000002 00000000 0001 0000000000000035 0001 0000 0000000000000001 01 0000000000000007 00";
+
+/// Stream 1 of two: the catalogue of `table b`.
+const OTHER: &str =
+    "5441555255532d4c4f472d31 0002 0001 01 0000000d 04 0000000d 7461626c6520620a 00";
+
+/// A stream of one: the call `put a 1 5` at 13.
+const COMMAND: &str = "5441555255532d4c4f472d31 0001 0000 01 0000000d 04 0000000d 7461626c6520610a \
+    01 00000031 02 00000031 0000000000000001 00000000 0000 0000 03 01 0000000000000000 01 0000000000000001 01 0000000000000005 00";
+
+/// Stream 0 of three: the anchor (13,13,53) at 13, and `put a 1 5` above it at 42.
+const ANCHORED: &str =
+    "5441555255532d4c4f472d31 0003 0000 01 0000000d 04 0000000d 7461626c6520610a \
+    01 00000045 03 0000001d 000000000000000d 000000000000000d 0000000000000035 \
+    01 00000028 0000000000000001 00000001 0000 0001 0000 0000000000000001 01 0000000000000005 00";
+
+/// A stream of one. After the catalogue a gate that reads 0, and ones to the end of the image.
+const CLOSED: &str =
+    "5441555255532d4c4f472d31 0001 0000 01 0000000d 04 0000000d 7461626c6520610a 00 \
+    010101010101010101010101010101010101010101010101010101010101010101010101010101010101010101";
+
+/// A stream of one. A data record with the mask 2.
+const BIT_ABOVE: &str =
+    "5441555255532d4c4f472d31 0001 0000 01 0000000d 04 0000000d 7461626c6520610a \
+    01 00000028 01 00000028 0000000000000001 00000000 0002 0001 0000 0000000000000001 01 0000000000000005 00";
+
+/// A stream of one. A data record whose explicit component is the 0 of no anchor.
+const SAME_AS_ANCHOR: &str =
+    "5441555255532d4c4f472d31 0001 0000 01 0000000d 04 0000000d 7461626c6520610a \
+    01 00000030 01 00000030 0000000000000001 00000000 0001 0000000000000000 0001 0000 0000000000000001 01 0000000000000005 00";
+
+/// A stream of one. A write of table 1.
+const NO_TABLE: &str =
+    "5441555255532d4c4f472d31 0001 0000 01 0000000d 04 0000000d 7461626c6520610a \
+    01 00000028 01 00000028 0000000000000001 00000000 0000 0001 0001 0000000000000001 01 0000000000000005 00";
+
+/// A stream of one. A write of table 1, and after it a record of kind 9.
+const NO_TABLE_FIRST: &str =
+    "5441555255532d4c4f472d31 0001 0000 01 0000000d 04 0000000d 7461626c6520610a \
+    01 0000002d 01 00000028 0000000000000001 00000000 0000 0001 0001 0000000000000001 01 0000000000000005 09 00000005 00";
+
+/// A stream of one. A write of table 1 in a record whose last field runs past its length.
+const NO_TABLE_CUT: &str =
+    "5441555255532d4c4f472d31 0001 0000 01 0000000d 04 0000000d 7461626c6520610a \
+    01 00000029 01 00000027 0000000000000001 00000000 0000 0001 0001 0000000000000001 01 0000000000000005 00 00";
+
+/// A stream of one. A call of procedure 4.
+const NO_PROCEDURE: &str =
+    "5441555255532d4c4f472d31 0001 0000 01 0000000d 04 0000000d 7461626c6520610a \
+    01 00000016 02 00000016 0000000000000001 00000000 0000 0004 00 00";
+
+/// A stream of one. A `put` into table 1.
+const NO_TABLE_CALLED: &str =
+    "5441555255532d4c4f472d31 0001 0000 01 0000000d 04 0000000d 7461626c6520610a \
+    01 00000031 02 00000031 0000000000000001 00000000 0000 0000 03 01 0000000000000001 01 0000000000000001 01 0000000000000005 00";
+
+/// A stream of one. A `get` without its row.
+const TOO_FEW: &str = "5441555255532d4c4f472d31 0001 0000 01 0000000d 04 0000000d 7461626c6520610a \
+    01 0000001f 02 0000001f 0000000000000001 00000000 0000 0002 01 01 0000000000000000 00";
+
+/// A stream of one. A catalogue with two spaces.
+const NOT_CANONICAL: &str =
+    "5441555255532d4c4f472d31 0001 0000 01 0000000e 04 0000000e 7461626c652020610a 00";
+
+/// Eighteen bytes of an image, all zero.
+const ZEROS: &str = "000000000000000000000000000000000000";
+
+static LOGS: [Row; 11] = [
+    (
+        "a gate ends a stream",
+        Streams::Of(&[Image::Whole(ONE)]),
+        Found::Log(&[Told::Ends(&[53]), Told::Takes(0, &[false, true])]),
+    ),
+    (
+        "nothing after a gate that reads 0 counts",
+        Streams::Of(&[Image::Whole(CLOSED)]),
+        Found::Log(&[Told::Ends(&[13])]),
+    ),
+    (
+        "nothing after a gate that reads 7 counts",
+        Streams::Of(&[Image::Byte(CLOSED, 34, 7)]),
+        Found::Log(&[Told::Ends(&[13])]),
+    ),
+    (
+        "a command record is taken",
+        Streams::Of(&[Image::Whole(COMMAND)]),
+        Found::Log(&[Told::Ends(&[62]), Told::Takes(0, &[false, true])]),
+    ),
+    (
+        "the ends cover what is taken",
+        Streams::Of(&[Image::Whole(FIRST), Image::Whole(SECOND)]),
+        Found::Log(&[
+            Told::Ends(&[53, 61]),
+            Told::Takes(0, &[false, true]),
+            Told::Takes(1, &[false, true]),
+        ]),
+    ),
+    (
+        "what waits for a record that is cut off is not taken",
+        Streams::Of(&[Image::Catalogue(b'1', 2, 0), Image::Whole(SECOND)]),
+        Found::Log(&[Told::Ends(&[13, 61]), Told::Takes(1, &[false, false])]),
+    ),
+    (
+        "what waits for no record that is cut off is taken",
+        Streams::Of(&[Image::Whole(FIRST), Image::Catalogue(b'1', 2, 1)]),
+        Found::Log(&[Told::Ends(&[53, 13]), Told::Takes(0, &[false, true])]),
+    ),
+    (
+        "streams stand apart",
+        Streams::Of(&[Image::Catalogue(b'1', 2, 0), Image::Whole(APART)]),
+        Found::Log(&[Told::Ends(&[13, 53]), Told::Takes(1, &[false, true])]),
+    ),
+    (
+        "an anchor is no call, and a record above what is there is not taken",
+        Streams::Of(&[Image::Whole(ANCHORED), Image::Whole(""), Image::Whole("")]),
+        Found::Log(&[
+            Told::Ends(&[82, 0, 0]),
+            Told::Takes(0, &[false, false, false]),
+        ]),
+    ),
+    (
+        "an unborn stream declares nothing",
+        Streams::Of(&[Image::Whole(""), Image::Whole(OTHER)]),
+        Found::Log(&[Told::Tables(1)]),
+    ),
+    (
+        "disks are read before all",
+        Streams::Failing(ZEROS, 2, 1),
+        Found::Failed(1),
+    ),
 ];
-
-// Stream 0 of two: `put a 1 5` at 13.
-static FIRST: [u8; 80] = [
-    84, 65, 85, 82, 85, 83, 45, 76, 79, 71, 45, 49, 0, 2, 0, 0, 1, 0, 0, 0, 13, 4, 0, 0, 0, 13,
-    116, 97, 98, 108, 101, 32, 97, 10, 1, 0, 0, 0, 40, 1, 0, 0, 0, 40, 0, 0, 0, 0, 0, 0, 0, 1, 0,
-    0, 0, 0, 0, 0, 0, 1, 0, 0, 0, 0, 0, 0, 0, 0, 0, 1, 1, 0, 0, 0, 0, 0, 0, 0, 5, 0,
-];
-
-// Stream 1 of two: `add a 1 2` at 13, whose vector is (53,0).
-static SECOND: [u8; 88] = [
-    84, 65, 85, 82, 85, 83, 45, 76, 79, 71, 45, 49, 0, 2, 0, 1, 1, 0, 0, 0, 13, 4, 0, 0, 0, 13,
-    116, 97, 98, 108, 101, 32, 97, 10, 1, 0, 0, 0, 48, 1, 0, 0, 0, 48, 0, 0, 0, 0, 0, 0, 0, 2, 0,
-    0, 0, 0, 0, 1, 0, 0, 0, 0, 0, 0, 0, 53, 0, 1, 0, 0, 0, 0, 0, 0, 0, 0, 0, 1, 1, 0, 0, 0, 0, 0,
-    0, 0, 7, 0,
-];
-
-// Stream 0 of two: the catalogue of `table a` alone.
-static FIRST_CUT: [u8; 35] = [
-    84, 65, 85, 82, 85, 83, 45, 76, 79, 71, 45, 49, 0, 2, 0, 0, 1, 0, 0, 0, 13, 4, 0, 0, 0, 13,
-    116, 97, 98, 108, 101, 32, 97, 10, 0,
-];
-
-// Stream 1 of two, likewise.
-static SECOND_CUT: [u8; 35] = [
-    84, 65, 85, 82, 85, 83, 45, 76, 79, 71, 45, 49, 0, 2, 0, 1, 1, 0, 0, 0, 13, 4, 0, 0, 0, 13,
-    116, 97, 98, 108, 101, 32, 97, 10, 0,
-];
-
-// Stream 1 of two: `put a 2 6` at 13, whose vector is (0,0).
-static APART: [u8; 80] = [
-    84, 65, 85, 82, 85, 83, 45, 76, 79, 71, 45, 49, 0, 2, 0, 1, 1, 0, 0, 0, 13, 4, 0, 0, 0, 13,
-    116, 97, 98, 108, 101, 32, 97, 10, 1, 0, 0, 0, 40, 1, 0, 0, 0, 40, 0, 0, 0, 0, 0, 0, 0, 2, 0,
-    0, 0, 0, 0, 0, 0, 1, 0, 0, 0, 0, 0, 0, 0, 0, 0, 2, 1, 0, 0, 0, 0, 0, 0, 0, 6, 0,
-];
-
-// Stream 1 of two: the catalogue of `table b`.
-static OTHER: [u8; 35] = [
-    84, 65, 85, 82, 85, 83, 45, 76, 79, 71, 45, 49, 0, 2, 0, 1, 1, 0, 0, 0, 13, 4, 0, 0, 0, 13,
-    116, 97, 98, 108, 101, 32, 98, 10, 0,
-];
-
-// A stream of one: the call `put a 1 5` at 13.
-static COMMAND: [u8; 89] = [
-    84, 65, 85, 82, 85, 83, 45, 76, 79, 71, 45, 49, 0, 1, 0, 0, 1, 0, 0, 0, 13, 4, 0, 0, 0, 13,
-    116, 97, 98, 108, 101, 32, 97, 10, 1, 0, 0, 0, 49, 2, 0, 0, 0, 49, 0, 0, 0, 0, 0, 0, 0, 1, 0,
-    0, 0, 0, 0, 0, 0, 0, 3, 1, 0, 0, 0, 0, 0, 0, 0, 0, 1, 0, 0, 0, 0, 0, 0, 0, 1, 1, 0, 0, 0, 0, 0,
-    0, 0, 5, 0,
-];
-
-// Stream 0 of three: the anchor (13,13,53) at 13, and `put a 1 5` above it at 42.
-static ANCHORED: [u8; 109] = [
-    84, 65, 85, 82, 85, 83, 45, 76, 79, 71, 45, 49, 0, 3, 0, 0, 1, 0, 0, 0, 13, 4, 0, 0, 0, 13,
-    116, 97, 98, 108, 101, 32, 97, 10, 1, 0, 0, 0, 69, 3, 0, 0, 0, 29, 0, 0, 0, 0, 0, 0, 0, 13, 0,
-    0, 0, 0, 0, 0, 0, 13, 0, 0, 0, 0, 0, 0, 0, 53, 1, 0, 0, 0, 40, 0, 0, 0, 0, 0, 0, 0, 1, 0, 0, 0,
-    1, 0, 0, 0, 1, 0, 0, 0, 0, 0, 0, 0, 0, 0, 1, 1, 0, 0, 0, 0, 0, 0, 0, 5, 0,
-];
-
-// A stream of one. A data record with the mask 2.
-static BIT_ABOVE: [u8; 80] = [
-    84, 65, 85, 82, 85, 83, 45, 76, 79, 71, 45, 49, 0, 1, 0, 0, 1, 0, 0, 0, 13, 4, 0, 0, 0, 13,
-    116, 97, 98, 108, 101, 32, 97, 10, 1, 0, 0, 0, 40, 1, 0, 0, 0, 40, 0, 0, 0, 0, 0, 0, 0, 1, 0,
-    0, 0, 0, 0, 2, 0, 1, 0, 0, 0, 0, 0, 0, 0, 0, 0, 1, 1, 0, 0, 0, 0, 0, 0, 0, 5, 0,
-];
-
-// A stream of one. A data record whose explicit component is the 0 of no anchor.
-static SAME_AS_ANCHOR: [u8; 88] = [
-    84, 65, 85, 82, 85, 83, 45, 76, 79, 71, 45, 49, 0, 1, 0, 0, 1, 0, 0, 0, 13, 4, 0, 0, 0, 13,
-    116, 97, 98, 108, 101, 32, 97, 10, 1, 0, 0, 0, 48, 1, 0, 0, 0, 48, 0, 0, 0, 0, 0, 0, 0, 1, 0,
-    0, 0, 0, 0, 1, 0, 0, 0, 0, 0, 0, 0, 0, 0, 1, 0, 0, 0, 0, 0, 0, 0, 0, 0, 1, 1, 0, 0, 0, 0, 0, 0,
-    0, 5, 0,
-];
-
-// A stream of one. A write of table 1.
-static NO_TABLE: [u8; 80] = [
-    84, 65, 85, 82, 85, 83, 45, 76, 79, 71, 45, 49, 0, 1, 0, 0, 1, 0, 0, 0, 13, 4, 0, 0, 0, 13,
-    116, 97, 98, 108, 101, 32, 97, 10, 1, 0, 0, 0, 40, 1, 0, 0, 0, 40, 0, 0, 0, 0, 0, 0, 0, 1, 0,
-    0, 0, 0, 0, 0, 0, 1, 0, 1, 0, 0, 0, 0, 0, 0, 0, 1, 1, 0, 0, 0, 0, 0, 0, 0, 5, 0,
-];
-
-// A stream of one. A write of table 1, and after it a record of kind 9.
-static NO_TABLE_FIRST: [u8; 85] = [
-    84, 65, 85, 82, 85, 83, 45, 76, 79, 71, 45, 49, 0, 1, 0, 0, 1, 0, 0, 0, 13, 4, 0, 0, 0, 13,
-    116, 97, 98, 108, 101, 32, 97, 10, 1, 0, 0, 0, 45, 1, 0, 0, 0, 40, 0, 0, 0, 0, 0, 0, 0, 1, 0,
-    0, 0, 0, 0, 0, 0, 1, 0, 1, 0, 0, 0, 0, 0, 0, 0, 1, 1, 0, 0, 0, 0, 0, 0, 0, 5, 9, 0, 0, 0, 5, 0,
-];
-
-// A stream of one. A write of table 1 in a record whose last field runs past its length.
-static NO_TABLE_CUT: [u8; 81] = [
-    84, 65, 85, 82, 85, 83, 45, 76, 79, 71, 45, 49, 0, 1, 0, 0, 1, 0, 0, 0, 13, 4, 0, 0, 0, 13,
-    116, 97, 98, 108, 101, 32, 97, 10, 1, 0, 0, 0, 41, 1, 0, 0, 0, 39, 0, 0, 0, 0, 0, 0, 0, 1, 0,
-    0, 0, 0, 0, 0, 0, 1, 0, 1, 0, 0, 0, 0, 0, 0, 0, 1, 1, 0, 0, 0, 0, 0, 0, 0, 5, 0, 0,
-];
-
-// A stream of one. A call of procedure 4.
-static NO_PROCEDURE: [u8; 62] = [
-    84, 65, 85, 82, 85, 83, 45, 76, 79, 71, 45, 49, 0, 1, 0, 0, 1, 0, 0, 0, 13, 4, 0, 0, 0, 13,
-    116, 97, 98, 108, 101, 32, 97, 10, 1, 0, 0, 0, 22, 2, 0, 0, 0, 22, 0, 0, 0, 0, 0, 0, 0, 1, 0,
-    0, 0, 0, 0, 0, 0, 4, 0, 0,
-];
-
-// A stream of one. A `put` into table 1.
-static NO_TABLE_CALLED: [u8; 89] = [
-    84, 65, 85, 82, 85, 83, 45, 76, 79, 71, 45, 49, 0, 1, 0, 0, 1, 0, 0, 0, 13, 4, 0, 0, 0, 13,
-    116, 97, 98, 108, 101, 32, 97, 10, 1, 0, 0, 0, 49, 2, 0, 0, 0, 49, 0, 0, 0, 0, 0, 0, 0, 1, 0,
-    0, 0, 0, 0, 0, 0, 0, 3, 1, 0, 0, 0, 0, 0, 0, 0, 1, 1, 0, 0, 0, 0, 0, 0, 0, 1, 1, 0, 0, 0, 0, 0,
-    0, 0, 5, 0,
-];
-
-// A stream of one. A `get` without its row.
-static TOO_FEW: [u8; 71] = [
-    84, 65, 85, 82, 85, 83, 45, 76, 79, 71, 45, 49, 0, 1, 0, 0, 1, 0, 0, 0, 13, 4, 0, 0, 0, 13,
-    116, 97, 98, 108, 101, 32, 97, 10, 1, 0, 0, 0, 31, 2, 0, 0, 0, 31, 0, 0, 0, 0, 0, 0, 0, 1, 0,
-    0, 0, 0, 0, 0, 0, 2, 1, 1, 0, 0, 0, 0, 0, 0, 0, 0, 0,
-];
-
-// A stream of one. A catalogue with two spaces.
-static NOT_CANONICAL: [u8; 36] = [
-    84, 65, 85, 82, 85, 83, 45, 76, 79, 71, 45, 49, 0, 1, 0, 0, 1, 0, 0, 0, 14, 4, 0, 0, 0, 14,
-    116, 97, 98, 108, 101, 32, 32, 97, 10, 0,
-];
-
-// The log of a stream of one with this image, or the first cause.
-fn read_one(alloc: Global, image: &[u8]) -> Result<Result<Log, ScanRefusal>, Fail> {
-    let mut disks = vec![in alloc; MemDisk::of_image(alloc, image)?]?;
-    Ok(scan(alloc, disks.as_mut_slice(), None))
-}
-
-// The log of two streams with these images, or the first cause.
-fn read_two(alloc: Global, first: &[u8], second: &[u8]) -> Result<Result<Log, ScanRefusal>, Fail> {
-    let mut disks = vec![in alloc;
-        MemDisk::of_image(alloc, first)?,
-        MemDisk::of_image(alloc, second)?,
-    ]?;
-    Ok(scan(alloc, disks.as_mut_slice(), None))
-}
-
-// The log of three streams, of which the first has this image and the others hold nothing, or the first cause.
-fn read_first_of_three(alloc: Global, first: &[u8]) -> Result<Result<Log, ScanRefusal>, Fail> {
-    let mut disks = vec![in alloc;
-        MemDisk::of_image(alloc, first)?,
-        MemDisk::of_image(alloc, b"")?,
-        MemDisk::of_image(alloc, b"")?,
-    ]?;
-    Ok(scan(alloc, disks.as_mut_slice(), None))
-}
-
-// The stream and the cause, where there is no log.
-fn fault_of(read: Result<Log, ScanRefusal>) -> Option<(u8, LogCause)> {
-    match read {
-        Err(ScanRefusal::Bad(fault)) => Some((fault.stream, fault.cause)),
-        _ => None,
-    }
-}
-
-// The log, where there is one.
-fn log_of(read: Result<Log, ScanRefusal>) -> Result<Log, Fail> {
-    match read {
-        Ok(log) => Ok(log),
-        Err(_) => Err(Fail::from("no log")),
-    }
-}
-
-// A record of a stream, by its index, and whether it is taken.
-type Row = (u8, usize, bool);
-
-// Checks that there is a log, where it ends, and which of these records are taken.
-fn holds(
-    rt: &impl Abort,
-    read: Result<Log, ScanRefusal>,
-    elv: &[u64],
-    rows: &[Row],
-) -> Result<(), Fail> {
-    let log = log_of(read)?;
-    assert_eq!(rt; log.elv.as_slice(), elv);
-    for (stream, index, is_taken) in rows {
-        assert_eq!(rt; log.taken(*stream, *index), *is_taken);
-    }
-    Ok(())
-}
-
-// Checks the log of a stream of one with this image: where it ends, and which of these records are taken.
-fn one_holds(
-    rt: &impl Abort,
-    alloc: Global,
-    image: &[u8],
-    end: u64,
-    rows: &[Row],
-) -> Result<(), Fail> {
-    holds(rt, read_one(alloc, image)?, &[end], rows)
-}
-
-// Checks the log of two streams with these images: where they end, and which of these records are taken.
-fn two_hold(
-    rt: &impl Abort,
-    alloc: Global,
-    images: (&[u8], &[u8]),
-    ends: [u64; 2],
-    rows: &[Row],
-) -> Result<(), Fail> {
-    holds(rt, read_two(alloc, images.0, images.1)?, &ends, rows)
-}
-
-// Checks that a read names this cause.
-fn names(rt: &impl Abort, read: Result<Log, ScanRefusal>, stream: u8, cause: LogCause) {
-    assert_eq!(rt; fault_of(read), Some((stream, cause)));
-}
-
-// Checks the cause that a stream of one with this image has.
-fn one_names(rt: &impl Abort, alloc: Global, image: &[u8], cause: LogCause) -> Result<(), Fail> {
-    names(rt, read_one(alloc, image)?, 0, cause);
-    Ok(())
-}
-
-// Checks the stream and the cause that two streams with these images have.
-fn two_name(
-    rt: &impl Abort,
-    alloc: Global,
-    images: (&[u8], &[u8]),
-    stream: u8,
-    cause: LogCause,
-) -> Result<(), Fail> {
-    names(rt, read_two(alloc, images.0, images.1)?, stream, cause);
-    Ok(())
-}
-
-// A bad record.
-fn bad_record(cause: RecordCause, at: u64) -> LogCause {
-    LogCause::Body(RecordFault { at, cause })
-}
-
-// The log, whose bytes from a place on are those of a number.
-fn changed(at: usize, width: usize, number: u64) -> [u8; 80] {
-    let mut image = LOG;
-    let bytes = number.to_be_bytes();
-    for (k, byte) in bytes.iter().enumerate() {
-        if width <= 8 && k + width >= 8 && at < 80 && at + (k + width - 8) < 80 {
-            image[at + (k + width - 8)] = *byte;
-        }
-    }
-    image
-}
-
-// Checks the cause that a stream of one has with the log, whose bytes from a place on are those of a number.
-fn changed_names(
-    rt: &impl Abort,
-    alloc: Global,
-    place: (usize, usize),
-    number: u64,
-    cause: LogCause,
-) -> Result<(), Fail> {
-    let image = changed(place.0, place.1, number);
-    let found = fault_of(read_one(alloc, &image)?);
-    assert_eq!(rt; found, Some((0, cause)), "byte {}", place.0);
-    Ok(())
-}
 
 #[test]
-fn gates_end_a_stream(rt: HostRuntime) -> Result<(), Fail> {
-    one_holds(&rt, rt.alloc(), &LOG, 53, &[(0, 0, false), (0, 1, true)])
+fn logs_are_read(rt: HostRuntime) -> Result<(), Fail> {
+    are_read(&rt, rt.alloc(), None, &LOGS)
 }
 
-// The log with another gate, and ones behind it.
-fn closed(gate: u8) -> [u8; 80] {
-    let mut image = LOG;
-    image[34] = gate;
-    image[35..].fill(1);
-    image
-}
-
-#[test]
-fn nothing_behind_a_closed_gate_counts(rt: HostRuntime) -> Result<(), Fail> {
-    for gate in [0u8, 7] {
-        one_holds(&rt, rt.alloc(), &closed(gate), 13, &[])?;
-    }
-    Ok(())
-}
-
+/// Fewer bytes than a header, a gate and one byte of a block.
 #[test]
 fn unborn_streams_hold_nothing(rt: HostRuntime) -> Result<(), Fail> {
-    let magic = LogCause::Image(ImageFault::BadMagic);
-    for size in 0usize..18 {
-        one_holds(&rt, rt.alloc(), &LOG[..size], 0, &[])?;
-    }
-    one_names(&rt, rt.alloc(), &[0u8; 18], magic)
-}
-
-#[test]
-fn masks_have_one_spelling(rt: HostRuntime) -> Result<(), Fail> {
-    let bad = bad_record(RecordCause::BadMask, 13);
-    one_names(&rt, rt.alloc(), &BIT_ABOVE, bad)?;
-    one_names(&rt, rt.alloc(), &SAME_AS_ANCHOR, bad)
-}
-
-#[test]
-fn hostile_images_are_named(rt: HostRuntime) -> Result<(), Fail> {
-    let rows = [
-        (0usize, 1usize, 0u64, ImageFault::BadMagic),
-        (12, 2, 17, ImageFault::BadCount),
-        (14, 2, 1, ImageFault::BadIndex),
-        (17, 4, 0, ImageFault::OpenGateWithoutBlock),
-    ];
-    for (at, width, number, fault) in rows {
-        changed_names(&rt, rt.alloc(), (at, width), number, LogCause::Image(fault))?;
-    }
-    let open = LogCause::Image(ImageFault::OpenGateWithoutBlock);
-    one_names(&rt, rt.alloc(), &LOG[..34], open)
-}
-
-#[test]
-fn hostile_records_are_named(rt: HostRuntime) -> Result<(), Fail> {
-    let rows = [
-        (21usize, 1usize, 1u64, RecordCause::BadKind, 0u64),
-        (39, 1, 9, RecordCause::BadKind, 13),
-        (40, 4, 41, RecordCause::Short, 13),
-        (40, 4, 39, RecordCause::BadLength, 13),
-        (44, 8, 0, RecordCause::BadBody, 13),
-        (52, 4, 1, RecordCause::BadAnchor, 13),
-        (58, 2, 0, RecordCause::BadBody, 13),
-        (70, 1, 3, RecordCause::BadBody, 13),
-    ];
-    for (at, width, number, cause, start) in rows {
-        changed_names(
-            &rt,
-            rt.alloc(),
-            (at, width),
-            number,
-            bad_record(cause, start),
-        )?;
+    for size in 0..18 {
+        let row = (
+            "the front of an image",
+            Streams::Front(ONE, size),
+            Found::Log(&[Told::Ends(&[0])]),
+        );
+        are_read(&rt, rt.alloc(), None, &[row])?;
     }
     Ok(())
 }
 
-#[test]
-fn written_tables_are_declared(rt: HostRuntime) -> Result<(), Fail> {
-    let bad = bad_record(RecordCause::BadBody, 13);
-    one_names(&rt, rt.alloc(), &NO_TABLE, bad)?;
-    one_names(&rt, rt.alloc(), &NO_TABLE_FIRST, bad)?;
-    let length = bad_record(RecordCause::BadLength, 13);
-    one_names(&rt, rt.alloc(), &NO_TABLE_CUT, length)
-}
+static CAUSES: [Row; 16] = [
+    (
+        "a stream is born by its eighteenth byte",
+        Streams::Of(&[Image::Whole(ZEROS)]),
+        Found::Bad(0, MAGIC),
+    ),
+    (
+        "a gate is open, and no block is there",
+        Streams::Of(&[Image::Front(ONE, 34)]),
+        Found::Bad(0, GATE),
+    ),
+    (
+        "the mask has a bit for no stream",
+        Streams::Of(&[Image::Whole(BIT_ABOVE)]),
+        Found::Bad(0, MASK),
+    ),
+    (
+        "the mask has a bit for a component of the anchor",
+        Streams::Of(&[Image::Whole(SAME_AS_ANCHOR)]),
+        Found::Bad(0, MASK),
+    ),
+    (
+        "a write of a table that is not declared",
+        Streams::Of(&[Image::Whole(NO_TABLE)]),
+        Found::Bad(0, BODY),
+    ),
+    (
+        "a write of no table comes before a kind of no record",
+        Streams::Of(&[Image::Whole(NO_TABLE_FIRST)]),
+        Found::Bad(0, BODY),
+    ),
+    (
+        "the length comes before a write of no table",
+        Streams::Of(&[Image::Whole(NO_TABLE_CUT)]),
+        Found::Bad(0, LENGTH),
+    ),
+    (
+        "a call of a procedure that is not declared",
+        Streams::Of(&[Image::Whole(NO_PROCEDURE)]),
+        Found::Bad(0, BODY),
+    ),
+    (
+        "a call with a table that is not declared",
+        Streams::Of(&[Image::Whole(NO_TABLE_CALLED)]),
+        Found::Bad(0, BODY),
+    ),
+    (
+        "a call with too few arguments",
+        Streams::Of(&[Image::Whole(TOO_FEW)]),
+        Found::Bad(0, BODY),
+    ),
+    (
+        "a catalogue with two spaces",
+        Streams::Of(&[Image::Whole(NOT_CANONICAL)]),
+        Found::Bad(0, FIRST_BODY),
+    ),
+    (
+        "catalogues differ",
+        Streams::Of(&[Image::Whole(FIRST), Image::Whole(OTHER)]),
+        Found::Bad(1, LogCause::Catalogue { with: 0, at: 6 }),
+    ),
+    (
+        "a stream of two among three",
+        Streams::Of(&[Image::Whole(FIRST), Image::Whole(""), Image::Whole("")]),
+        Found::Bad(0, LogCause::Count { asked: 3, found: 2 }),
+    ),
+    (
+        "a record comes before catalogues",
+        Streams::Of(&[Image::Byte(FIRST, 39, 9), Image::Whole(OTHER)]),
+        Found::Bad(0, KIND),
+    ),
+    (
+        "a count comes before records",
+        Streams::Of(&[Image::Byte(FIRST, 39, 9), Image::Byte(OTHER, 13, 3)]),
+        Found::Bad(1, LogCause::Count { asked: 2, found: 3 }),
+    ),
+    (
+        "a header comes before its count, and before records",
+        Streams::Of(&[
+            Image::Byte(FIRST, 39, 9),
+            Image::Bytes(OTHER, &[(13, 3), (0, 0)]),
+        ]),
+        Found::Bad(1, MAGIC),
+    ),
+];
 
 #[test]
-fn calls_are_of_declared_procedures(rt: HostRuntime) -> Result<(), Fail> {
-    let bad = bad_record(RecordCause::BadBody, 13);
-    one_names(&rt, rt.alloc(), &NO_PROCEDURE, bad)?;
-    one_names(&rt, rt.alloc(), &NO_TABLE_CALLED, bad)?;
-    one_names(&rt, rt.alloc(), &TOO_FEW, bad)
+fn causes_are_named_in_their_order(rt: HostRuntime) -> Result<(), Fail> {
+    are_read(&rt, rt.alloc(), None, &CAUSES)
 }
+
+/// The header, the first gate and the record of `put a 1 5`.
+static EDGES: [Edge; 12] = [
+    (0, 0, Some(MAGIC)),
+    (13, 17, Some(COUNT)),
+    (15, 1, Some(INDEX)),
+    (20, 0, Some(GATE)),
+    (21, 1, Some(FIRST_KIND)),
+    (39, 9, Some(KIND)),
+    (43, 41, Some(SHORT)),
+    (43, 39, Some(LENGTH)),
+    (51, 0, Some(BODY)),
+    (55, 1, Some(ANCHOR)),
+    (59, 0, Some(BODY)),
+    (70, 3, Some(BODY)),
+];
 
 #[test]
-fn catalogues_are_canonical(rt: HostRuntime) -> Result<(), Fail> {
-    let bad = bad_record(RecordCause::BadBody, 0);
-    one_names(&rt, rt.alloc(), &NOT_CANONICAL, bad)
-}
-
-#[test]
-fn command_records_are_taken(rt: HostRuntime) -> Result<(), Fail> {
-    one_holds(&rt, rt.alloc(), &COMMAND, 62, &[(0, 1, true)])
-}
-
-#[test]
-fn the_end_covers_what_is_taken(rt: HostRuntime) -> Result<(), Fail> {
-    let taken = [(0, 1, true), (1, 1, true)];
-    two_hold(&rt, rt.alloc(), (&FIRST, &SECOND), [53, 61], &taken)
-}
-
-#[test]
-fn a_cut_takes_its_own(rt: HostRuntime) -> Result<(), Fail> {
-    let left = [(1, 1, false)];
-    two_hold(&rt, rt.alloc(), (&FIRST_CUT, &SECOND), [13, 61], &left)?;
-    let taken = [(0, 1, true)];
-    two_hold(&rt, rt.alloc(), (&FIRST, &SECOND_CUT), [53, 13], &taken)
-}
-
-#[test]
-fn streams_stand_apart(rt: HostRuntime) -> Result<(), Fail> {
-    let taken = [(1, 1, true)];
-    two_hold(&rt, rt.alloc(), (&FIRST_CUT, &APART), [13, 53], &taken)
-}
-
-// Checks how many tables are declared where the first stream holds nothing.
-fn tables_beside_none(
-    rt: &impl Abort,
-    alloc: Global,
-    second: &[u8],
-    count: usize,
-) -> Result<(), Fail> {
-    let log = log_of(read_two(alloc, b"", second)?)?;
-    assert_eq!(rt; log.declarations.tables.len(), count);
-    Ok(())
-}
-
-#[test]
-fn catalogues_agree(rt: HostRuntime) -> Result<(), Fail> {
-    let differs = LogCause::Catalogue { with: 0, at: 6 };
-    two_name(&rt, rt.alloc(), (&FIRST, &OTHER), 1, differs)?;
-    tables_beside_none(&rt, rt.alloc(), &OTHER, 1)
-}
-
-#[test]
-fn streams_are_counted(rt: HostRuntime) -> Result<(), Fail> {
-    let count = LogCause::Count { asked: 3, found: 2 };
-    names(&rt, read_first_of_three(rt.alloc(), &FIRST)?, 0, count);
-    Ok(())
-}
-
-// Images and counts come before records, and these before catalogues.
-#[test]
-fn causes_stand_in_their_order(rt: HostRuntime) -> Result<(), Fail> {
-    let mut spoilt = FIRST;
-    spoilt[39] = 9;
-    let record = bad_record(RecordCause::BadKind, 13);
-    two_name(&rt, rt.alloc(), (&spoilt, &OTHER), 0, record)?;
-    let mut other = OTHER;
-    other[13] = 3;
-    let count = LogCause::Count { asked: 2, found: 3 };
-    two_name(&rt, rt.alloc(), (&spoilt, &other), 1, count)?;
-    other[0] = 0;
-    let magic = LogCause::Image(ImageFault::BadMagic);
-    two_name(&rt, rt.alloc(), (&spoilt, &other), 1, magic)
-}
-
-// The stream whose disk failed, where one did.
-fn failed_of(read: Result<Log, ScanRefusal>) -> u8 {
-    match read {
-        Err(ScanRefusal::Failed { stream }) => stream,
-        _ => 255,
-    }
-}
-
-#[test]
-fn disks_are_read_before_all(rt: HostRuntime) -> Result<(), Fail> {
-    let alloc = rt.alloc();
-    let mut disks = vec![in alloc;
-        MemDisk::of_image(alloc, &[0u8; 18])?,
-        MemDisk::new(alloc, &[2])?,
-        MemDisk::new(alloc, &[1])?,
-    ]?;
-    assert_eq!(rt; failed_of(scan(alloc, disks.as_mut_slice(), None)), 1);
-    Ok(())
-}
-
-#[test]
-fn anchors_are_no_calls(rt: HostRuntime) -> Result<(), Fail> {
-    let left = [(0, 1, false), (0, 2, false)];
-    holds(
-        &rt,
-        read_first_of_three(rt.alloc(), &ANCHORED)?,
-        &[82, 0, 0],
-        &left,
-    )
+fn hostile_images_of_one_stream_are_named(rt: HostRuntime) -> Result<(), Fail> {
+    have_causes(&rt, rt.alloc(), ONE, &[], &EDGES)
 }
