@@ -38,7 +38,7 @@ use Rattle.tau_inspect.specs.ByNumber.{is_in, IsUnique}
 use Rattle.tau_inspect.specs.Parts.{lacks}
 use Rattle.tau_inspect.specs.ReportFor.{HasSpelling, IsCall, IsFate, IsReply, IsRow, IsVector}
 use Rattle.tau_inspect.specs.RunText.{AreNames, IsTextOf}
-use Rattle.tau_inspect.specs.Sections.{IsLine, Apart, AreAcks, AreFates, AreRows, AcksFit, RowsFit, BeginsAlike, BeginsWithFates, Leaves, Stops, StopsFates}
+use Rattle.tau_inspect.specs.Sections.{IsLine, NoLine, Apart, AreAcks, AreFates, AreRows, AcksFit, RowsFit, BeginsAlike, BeginsWithFates, Leaves, Stops, StopsFates}
 use Rattle.tau_inspect.proofs.Acts.{get_in, none_some}
 use Rattle.tau_inspect.proofs.Cutting.{cut_one, cut_lacks, decimal_lacks, lacks_append}
 use Rattle.tau_inspect.proofs.Greedy.{reads_all, apart_lines}
@@ -106,6 +106,10 @@ module _ (calls : ℕ) (small : calls < 2 ^ 32) where
   pub orders_stop : (order rest line following : List ℕ) → All (IsCall calls) order → IsLine rest line following → ((k : ℕ) → IsCall calls k → order_body k ≡ line → ⊥) → Stops order_line (All (IsCall calls)) 111 order rest
   orders_stop order rest line following read l none =
       orders_end order rest read (λ k tail fits is. none k fits (cut_one 10 (order_body k) line tail following (order_lacks calls small k fits) l.one (sym is ∙ l.is)).0)
+
+  pub orders_none : (order rest : List ℕ) → All (IsCall calls) order → NoLine order_body (IsCall calls) rest → Stops order_line (All (IsCall calls)) 111 order rest
+  orders_none order rest read (inl none) = orders_lack order rest read none
+  orders_none order rest read (inr other) = orders_stop order rest other.0 other.1 read other.2 other.3
 
 -- ---- acknowledgements
 
@@ -179,6 +183,10 @@ module _ (calls n : ℕ) (small : calls < 2 ^ 32) where
           acks_end (λ y ys tail fy u is.
           let same = ack_same y (a.number, a.lv) line fy fits (cut_one 10 (told_body y) line tail following (ack_lacks y fy) l.one (sym is ∙ l.is)).0 e in
           twice (map (λ (b : ℕ × List ℕ). b.0) acks) (map (λ (b : ℕ × List ℕ). b.0) ys) y.0 (subst (λ (k : ℕ). is_in k (map (λ (b : ℕ × List ℕ). b.0) acks) ≡ true) (sym same) there) u)
+
+pub acks_none : (calls n : ℕ) (small : calls < 2 ^ 32) (text : List ℕ) (acks : List (ℕ × List ℕ)) (rest : List ℕ) → AreAcks calls n text acks rest → NoLine ack_body (IsAck calls n) rest → Stops ack_line (AcksFit calls n) 97 acks rest
+acks_none calls n small text acks rest are (inl none) = acks_lack calls n small text acks rest are none
+acks_none calls n small text acks rest are (inr other) = acks_stop calls n small text acks rest are other.0 other.1 other.2 other.3
 
 -- ---- rows
 
@@ -286,6 +294,10 @@ module _ (calls : ℕ) (small : calls < 2 ^ 32) (text : List ℕ) (fates : List 
 
   pub fates_stop : (line following : List ℕ) → IsLine rest line following → ((f : Fate) → IsFate f → fate_body (length fates + 1) f ≡ line → ⊥) → StopsFates calls fates rest
   fates_stop line following l none = fates_end (λ f tail lt fits is. none f fits (cut_one 10 (fate_body (length fates + 1) f) line tail following (fate_lacks (length fates + 1) f (omega (arith, lt, small)) fits) l.one (sym is ∙ l.is)).0)
+
+pub fates_none : (calls : ℕ) (small : calls < 2 ^ 32) (text : List ℕ) (fates : List Fate) (rest : List ℕ) → AreFates text fates rest → length fates ≤ calls → NoLine (fate_body (length fates + 1)) IsFate rest → StopsFates calls fates rest
+fates_none calls small text fates rest are long (inl none) = fates_lack calls small text fates rest are long none
+fates_none calls small text fates rest are long (inr other) = fates_stop calls small text fates rest are long other.0 other.1 other.2 other.3
 
 -- ---- the whole report
 

@@ -9,6 +9,7 @@ pub mod Leaving
 pub mod OneReport
 pub mod FirstBad
 pub mod OneBad
+pub mod OnePass
 pub mod KeptDone
 pub mod Named
 pub mod Fitting

@@ -21,7 +21,7 @@ small_pos n fits = (let e : nat_lt n (2 ^ 63) ≡ true = (and_parts (int_le (neg
 pub small_neg : (n : ℕ) → is_i64 (negsuc n) ≡ true → n < 2 ^ 63
 small_neg n fits = (let e : nat_le n (2 ^ 63 - 1) ≡ true = (and_parts (int_le (negsuc (2 ^ 63 - 1)) (negsuc n)) (int_lt (negsuc n) (pos (2 ^ 63))) fits).0 in let le : n ≤ 2 ^ 63 - 1 = grind (arith, nat_tests) in omega (arith, le))
 
-digits_push : (ds : List ℕ) (v m b : ℕ) → digits_after v ds ≡ Some m → is_digit b ≡ true → digits_after v (ds ++ b ∷ []) ≡ Some (m * 10 + (b - 48))
+pub digits_push : (ds : List ℕ) (v m b : ℕ) → digits_after v ds ≡ Some m → is_digit b ≡ true → digits_after v (ds ++ b ∷ []) ≡ Some (m * 10 + (b - 48))
 unfolding digits_after
 digits_push [] v m b e d = (let same : v ≡ m = cc in rw (d, same) refl)
 digits_push (c ∷ ds) v m b e d = by_test (λ q. digits_push ds (v * 10 + (c - 48)) m b q d) (is_digit c) refl

@@ -1,5 +1,5 @@
 -- The sections of a report, at the start of a text.
-use Rattle.std.specs.Prelude.{ℕ, ◌≡◌, true, All, List, [], ◌∷◌, ◌++◌, length, map, Option}
+use Rattle.std.specs.Prelude.{ℕ, ◌≡◌, ◌⊎◌, true, All, List, [], ◌∷◌, ◌++◌, length, map, Option}
 use Rattle.std.specs.declared.cmp.Ordering.TheVariants.{Less}
 use Rattle.std.specs.List.{flat_map}
 use Rattle.std.specs.List.Sorted.{IsStrictlySortedBy}
@@ -18,6 +18,10 @@ use Rattle.tau_inspect.specs.ReportFor.{IsCall, IsFate, IsRow, IsVector}
 pub record IsLine (text line rest : List ℕ) : Type 0 where
   pub is : text ≡ line ++ 10 ∷ rest
   pub one : lacks 10 line ≡ true
+
+-- its first line is the spelling of none of these, or it has no whole line
+abbrev pub NoLine : {A : Type 0} → (A → List ℕ) → (A → Type 0) → List ℕ → Type 0
+NoLine {A} spell Fits text = (lacks 10 text ≡ true) ⊎ ((line rest : List ℕ) × IsLine text line rest × ((a : A) → Fits a → spell a ≡ line → ⊥))
 
 -- acknowledgements at the start of a text
 pub record AreAcks (calls n : ℕ) (text : List ℕ) (acks : List (ℕ × List ℕ)) (rest : List ℕ) : Type 0 where

@@ -13,25 +13,15 @@ ghost use Rattle.tau_inspect.specs.ReportRead.{IsReadOf, NamesLine};
 ghost use Rattle.tau_inspect.specs.Sections.{IsLine, AreAcks, AreFates, AreOrders, AreRows, IsAbove, Stops, StopsFates, StopsEnd, AcksFit, RowsFit};
 
 use crate::by_number::{flag, flags, is_flagged};
-use crate::parts::cut_at;
+use crate::lines::{next_ack, next_fate, next_line, next_order};
 use crate::refusal::ReportRefusal;
-use crate::told::{AckLine, read_ack, read_end, read_fate, read_order, read_row};
+use crate::told::{AckLine, read_end, read_row};
 use std::alloc::Global;
 use std::cmp::Ordering;
 use tau_base::{Key, Listed, Lv, MAX_STREAMS, MAX_TABLES, Name, NoMemory, Value};
 use tau_model::Tables;
 use tau_report::{Acks, Fate, KeptFate, RunReport};
 use tau_text::Declarations;
-
-/// The first line, if it is whole, and what comes after it.
-fn next_line<'a>(text: &'a [u8]) -> Option<(&'a [u8], &'a [u8])>
-    ensures { MatchOption result (IsTrue (lacks 10 text.now)) (λ p. IsLine text.now p.0.now p.1.now) }
-{
-    match cut_at(text, b'\n') {
-        None => None,
-        Some(i) => Some((&text[..i], &text[i + 1..])),
-    }
-}
 
 /// The calls of the history with which a text starts, put into the list. Returns what comes after them.
 fn read_orders<'a>(
@@ -45,15 +35,12 @@ fn read_orders<'a>(
 {
     let mut rest = text;
     'lines: loop {
-        match next_line(rest) {
+        match next_order(rest, calls)? {
             None => return Ok(rest),
-            Some((line, following)) => match read_order(line, calls)? {
-                None => return Ok(rest),
-                Some(number) => {
-                    order.push(number)?;
-                    rest = following;
-                }
-            },
+            Some((number, following)) => {
+                order.push(number)?;
+                rest = following;
+            }
         }
     }
 }
@@ -81,13 +68,9 @@ fn read_acks<'a>(
     };
     let mut rest = text;
     'lines: loop {
-        match next_line(rest) {
+        match next_ack(rest, calls, &mut ack)? {
             None => return Ok(rest),
-            Some((line, following)) => {
-                let found = read_ack(line, calls, &mut ack)?;
-                if !found {
-                    return Ok(rest);
-                }
+            Some(following) => {
                 if is_flagged(&seen, ack.number) {
                     return Ok(rest);
                 }
@@ -96,17 +79,6 @@ fn read_acks<'a>(
                 rest = following;
             }
         }
-    }
-}
-
-/// What became of a call, kept short.
-fn kept(alloc: Global, fate: &Fate) -> Result<KeptFate, NoMemory>
-    ensures { IfOk result (λ kept. kept ≡ fate.now) }
-{
-    match fate {
-        Fate::Acked(reply) => KeptFate::of(alloc, true, reply),
-        Fate::Unsure(reply) => KeptFate::of(alloc, false, reply),
-        Fate::Unrun => Ok(KeptFate::unrun()),
     }
 }
 
@@ -125,15 +97,12 @@ fn read_fates<'a>(
 {
     let mut rest = text;
     for before in 0..calls {
-        match next_line(rest) {
+        match next_fate(alloc, rest, u64::from(before) + 1)? {
             None => return Ok(rest),
-            Some((line, following)) => match read_fate(line, u64::from(before) + 1)? {
-                None => return Ok(rest),
-                Some(fate) => {
-                    fates.push(kept(alloc, &fate)?)?;
-                    rest = following;
-                }
-            },
+            Some((fate, following)) => {
+                fates.push(fate)?;
+                rest = following;
+            }
         }
     }
     Ok(rest)

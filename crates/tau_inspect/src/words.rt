@@ -39,6 +39,7 @@ pub fn read_plain(word: &[u8]) -> Result<Option<u64>, NoMemory>
 }
 
 /// What comes after these first bytes, if a text begins with them.
+#[inline(always)]
 pub fn after<'a>(text: &'a [u8], first: &[u8]) -> Option<&'a [u8]>
     ensures { MatchOption result ((rest : List ℕ) → text.now ≡ first.now ++ rest → ⊥) (λ rest. text.now ≡ first.now ++ rest.now) }
 {
