@@ -12,6 +12,7 @@ pub mod OneBad
 pub mod OnePass
 pub mod KeptDone
 pub mod Named
+pub mod NoneMissing
 pub mod Fitting
 pub mod ReadWords
 pub mod Spellings

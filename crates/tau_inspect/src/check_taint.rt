@@ -1,5 +1,6 @@
 //! The checks of what recovery takes: acknowledged calls are among it, and it is closed.
-ghost use Rattle.std.specs.Prelude.{ℕ, ◌≡◌, ◌≤◌, ◌↔◌, IsTrue, List, not, ◌&&◌, if◌then◌else◌, length, map, All, IfOk};
+ghost use Rattle.std.specs.Prelude.{ℕ, ◌≡◌, ◌≤◌, ◌↔◌, IsTrue, List, false, not, ◌&&◌, if◌then◌else◌, length, map, All, IfOk};
+ghost use Rattle.std.specs.List.{list_any};
 ghost use Rattle.tau_model.specs.History.{Numbered, Act, Member, updates};
 ghost use Rattle.tau_scan.specs.Taken.{taken};
 ghost use Rattle.tau_inspect.specs.Audit.{acts, records, is_taken, Survives, FitsAck, FitsClosed, IsWhole};
@@ -52,6 +53,23 @@ fn both(one: bool, other: bool) -> bool
     ensures { result ≡ (one && other) }
 {
     one && other
+}
+
+/// Whether a call of the order is updating and not taken. `takes` flags the numbers that are.
+pub fn is_any_missing(case: &LentCase<'_>, done: &AllDone, takes: &[bool]) -> bool
+    requires done { done.now ≡ effects (acts (in_case case.now)) }
+    requires many { length done.now ≡ length case.now.report.now.order }
+    requires there { All (IsNumberOf case.now.load.now.calls) case.now.report.now.order }
+    requires flagged { HasFlags (length case.now.load.now.calls) (map (λ r. r.number) (taken case.now.log.now)) takes.now }
+    ensures { result ≡ false → list_any (is_missing (is_taken (in_case case.now))) (acts (in_case case.now)) ≡ false }
+{
+    for i in 0..done.len() {
+        let did = done.at(i);
+        if is_gone(&did, is_flagged(takes, case.report.order[i])) {
+            return true;
+        }
+    }
+    false
 }
 
 /// Which calls of the order are updating and not taken. `takes` flags the numbers that are.

@@ -108,12 +108,25 @@ impl<'a> Done<'a> {
     }
 }
 
+/// Puts a row at the end. A whole number is not moved through a place as large as a text.
+#[inline(always)]
+fn put_row(rows: &mut Vec<(Key, Value)>, key: Key, value: &Value) -> Result<(), NoMemory>
+    ensures { OnOk result (rows.new.items ≡ rows.old.items ++ (key, value.now) ∷ []) }
+{
+    match value {
+        Value::Absent => rows.push((key, Value::Absent))?,
+        Value::Int(number) => rows.push((key, Value::Int(*number)))?,
+        Value::Text(text) => rows.push((key, Value::Text(text.copied())))?,
+    }
+    Ok(())
+}
+
 /// Puts rows at the end.
 fn put_rows(rows: &mut Vec<(Key, Value)>, more: &[(Key, Value)]) -> Result<(), NoMemory>
     ensures { OnOk result (rows.new.items ≡ rows.old.items ++ more.now) }
 {
     for row in more {
-        rows.push((row.0, row.1.copied()))?;
+        put_row(rows, row.0, &row.1)?;
     }
     Ok(())
 }
@@ -136,7 +149,7 @@ fn read_on(
         match machine.next() {
             Want::Read(key) => {
                 store.read_noted(key, places, &mut value);
-                rows.push((key, value.copied()))?;
+                put_row(rows, key, &value)?;
                 machine.give_lent(&value);
             }
             Want::Write(_) => machine.granted(),

@@ -66,11 +66,7 @@ pub fn next_ack<'a>(
 
 /// The same, however it is spelled.
 #[inline(never)]
-fn any_ack<'a>(
-    text: &'a [u8],
-    calls: u32,
-    ack: &mut AckLine,
-) -> Result<Option<&'a [u8]>, NoMemory>
+fn any_ack<'a>(text: &'a [u8], calls: u32, ack: &mut AckLine) -> Result<Option<&'a [u8]>, NoMemory>
     ensures wide { OnOk result (length ack.new.lv ≡ length ack.old.lv) }
     ensures read { IfOk result (λ o. MatchOption o (NoLine ack_body (IsAck calls (length ack.old.lv)) text.now) (λ rest. IsLine text.now (ack_body ack.new) rest.now × IsAck calls (length ack.old.lv) ack.new)) }
 {
@@ -114,11 +110,7 @@ pub fn next_fate(
 
 /// The same, however it is spelled.
 #[inline(never)]
-fn any_fate(
-    alloc: Global,
-    text: &[u8],
-    number: u64,
-) -> Result<Option<(KeptFate, &[u8])>, NoMemory>
+fn any_fate(alloc: Global, text: &[u8], number: u64) -> Result<Option<(KeptFate, &[u8])>, NoMemory>
     ensures { IfOk result (λ o. MatchOption o (NoLine (fate_body number) IsFate text.now) (λ a. IsLine text.now (fate_body number a.0) a.1.now × IsFate a.0)) }
 {
     match next_line(text) {

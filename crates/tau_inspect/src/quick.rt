@@ -34,23 +34,17 @@ fn spelled(text: &[u8], count: usize, value: u64) -> Option<(u64, &[u8])>
     Some((value, &text[count..]))
 }
 
-/// Up to which place a text is looked through for digits.
-#[inline(always)]
-fn few(text: &[u8]) -> usize
-    ensures within { result ≤ length text.now }
-    ensures few { result ≤ 18 }
-{
-    if text.len() < 18 { text.len() } else { 18 }
-}
-
-/// The number with which a text starts, if it has at most 17 digits, and what comes after it.
+/// The number with which a text starts, if it has at most 17 digits, and what comes after it. A text of fewer than 18 bytes
+/// is left to another reader, so that no digit is tested for the end of the text.
 #[inline(always)]
 fn digits(text: &[u8]) -> Option<(u64, &[u8])>
     ensures { IfSome result (λ a. (a.0 < 10 ^ 18) × (text.now ≡ decimal a.0 ++ a.1.now)) }
 {
-    let end = few(text);
+    if text.len() < 18 {
+        return None;
+    }
     let mut value: u64 = 0;
-    for i in 0..end {
+    for i in 0..18 {
         let byte = text[i];
         if byte < b'0' || byte > b'9' {
             return spelled(text, i, value);
@@ -67,13 +61,7 @@ fn past(text: &[u8], byte: u8) -> Option<&[u8]>
 {
     match text {
         [] => None,
-        [first, rest @ ..] => {
-            if *first == byte {
-                Some(rest)
-            } else {
-                None
-            }
-        }
+        [first, rest @ ..] => { if *first == byte { Some(rest) } else { None } }
     }
 }
 

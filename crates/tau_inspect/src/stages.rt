@@ -14,7 +14,7 @@ use crate::by_number::{counts, flags, places};
 use crate::case::LentCase;
 use crate::check_order::check_order;
 use crate::check_records::check_records;
-use crate::check_taint::{check_acks, check_closed, is_whole, tainted_of};
+use crate::check_taint::{check_acks, check_closed, is_any_missing, is_whole, tainted_of};
 use crate::checks::{check_fate, check_reply};
 use crate::executed::{AllDone, Executed, execute};
 use crate::records::{Record, records_of};
@@ -131,7 +131,8 @@ fn by_order(
     }
 }
 
-/// The checks of what recovery takes, and what follows.
+/// The checks of what recovery takes, and what follows. If it takes every call that writes, nothing depends on one that it
+/// does not.
 fn by_taken(
     alloc: Global,
     case: &LentCase<'_>,
@@ -152,6 +153,9 @@ fn by_taken(
 {
     let numbers = covered_numbers(alloc, &case.log.elv, all)?;
     let takes = flags(alloc, case.load.calls.len(), numbers.as_slice())?;
+    if !is_any_missing(case, done, takes.as_slice()) {
+        return by_order(alloc, case, done, acks, ack_places, all);
+    }
     let tainted = tainted_of(alloc, case, done, takes.as_slice())?;
     match check_acks(
         case,

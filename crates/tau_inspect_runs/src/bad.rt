@@ -11,7 +11,7 @@ use tau_inspect::Verdict;
 use tau_scan::Log;
 
 // The first bad line of each text, 0 if it is a report, of two calls over two streams.
-static TEXTS: [(u32, &'static [u8]); 45] = [
+static TEXTS: [(u32, &'static [u8]); 51] = [
     (1, b""),
     (1, b"\n"),
     (1, b"end 0\n"),
@@ -33,6 +33,13 @@ static TEXTS: [(u32, &'static [u8]); 45] = [
     (1, b"ack 1 53,0 \nunrun 1\nunrun 2\nend 0\n"),
     (1, b"ack 1 4611686018427387904,0\nunrun 1\nunrun 2\nend 0\n"),
     (0, b"ack 1 4611686018427387903,0\nunrun 1\nunrun 2\nend 0\n"),
+    (1, b"ack 1 053,0\nunrun 1\nunrun 2\nend 0\n"),
+    (0, b"ack 1 99999999999999999,0\nunrun 1\nunrun 2\nend 0\n"),
+    (0, b"ack 1 0,999999999999999999\nunrun 1\nunrun 2\nend 0\n"),
+    (
+        0,
+        b"ack 1 0,1000000000000000000\nunrun 1\nunrun 2\nend 0\n",
+    ),
     (2, b"unrun 1\nack 1 53,0\nunrun 2\nend 0\n"),
     // What became of the calls.
     (1, b"unrun 2\nunrun 1\nend 0\n"),
@@ -53,6 +60,11 @@ static TEXTS: [(u32, &'static [u8]); 45] = [
     (1, b"unrun 1 none\nunrun 2\nend 0\n"),
     // The history.
     (3, b"unrun 1\nunrun 2\norder 0\nend 0\n"),
+    (3, b"unrun 1\nunrun 2\norder 01\nrow a 1 int 1\nend 0\n"),
+    (
+        0,
+        b"reply 1 int 99999999999999999\nunrun 2\norder 1\nrow a 1 int 1\nend 0\n",
+    ),
     (4, b"unrun 1\nunrun 2\norder 2\norder 3\nend 0\n"),
     // Rows.
     (3, b"unrun 1\nunrun 2\nrow b 1 int 1\nend 0\n"),

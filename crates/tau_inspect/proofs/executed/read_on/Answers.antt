@@ -17,8 +17,7 @@ wants-preserved-in-Read c =
     let (read, is, has) = c.wants.invariant in
     let key = c.in-Read.key in let v = c.read_noted.new.value in (
       read ++ (key, v) ∷ [],
-      c.in_ok-push-in-Read.ensures.items ∙ ap (λ (w : Value). c.wants.rows.items ++ (key, w) ∷ []) c.copied.ensures
-          ∙ ap (λ (l : List (Key × Value)). l ++ (key, v) ∷ []) is ∙ append_assoc c.args.rows.now.items read ((key, v) ∷ []),
+      c.in_ok-put_row-in-Read.ensures ∙ ap (λ (l : List (Key × Value)). l ++ (key, v) ∷ []) is ∙ append_assoc c.args.rows.now.items read ((key, v) ∷ []),
       one_read c.args.procs.now c.args.call.now (database c.args.store.now) read c.wants.machine has key v c.give_lent.new.self
           (sym c.next.ensures.want ∙ c.in-Read.is) c.read_noted.ensures
           (λ vs. c.give_lent.ensures.stands vs ∙ ap (λ (m : Progress). ahead m (v ∷ vs)) c.next.ensures.same) (c.give_lent.ensures.granted ∙ ap (λ (m : Progress). m.granted) c.next.ensures.same),

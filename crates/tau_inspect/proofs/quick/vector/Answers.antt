@@ -29,5 +29,5 @@ returns-clause-read c =
         small = All-from_get_or (λ q. q < MAX_LSN) new 0 (λ k lt. c.as_slice-known.ensures.small k);
       },
       last_more n c.args.text.now last p c.loop-j.lv c.loop-j.rest.now c.in_ok-position-2.more.now (omega (arith, c.width-last.ensures.low, c.width-last.ensures.same)) here c.in_ok-position-2.ensures.1
-      ∙ ap (λ (l : List ℕ). vector_text l ++ 10 ∷ c.in_ok-position-2.more.now) (sym is),
+          ∙ ap (λ (l : List ℕ). vector_text l ++ 10 ∷ c.in_ok-position-2.more.now) (sym is),
     )
