@@ -36,10 +36,7 @@ static TEXTS: [(u32, &'static [u8]); 51] = [
     (1, b"ack 1 053,0\nunrun 1\nunrun 2\nend 0\n"),
     (0, b"ack 1 99999999999999999,0\nunrun 1\nunrun 2\nend 0\n"),
     (0, b"ack 1 0,999999999999999999\nunrun 1\nunrun 2\nend 0\n"),
-    (
-        0,
-        b"ack 1 0,1000000000000000000\nunrun 1\nunrun 2\nend 0\n",
-    ),
+    (0, b"ack 1 0,1000000000000000000\nunrun 1\nunrun 2\nend 0\n"),
     (2, b"unrun 1\nack 1 53,0\nunrun 2\nend 0\n"),
     // What became of the calls.
     (1, b"unrun 2\nunrun 1\nend 0\n"),
