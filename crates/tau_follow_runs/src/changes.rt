@@ -23,20 +23,27 @@ fn delete(number: [u8; 2], row: u8) -> [u8; 32] {
 
 #[test]
 fn rows_come_and_go_one_by_one(rt: HostRuntime) -> Result<(), Fail> {
+    let five = put([0, 1], 5, 1);
+    let three = put([0, 2], 3, 2);
+    let nine = put([0, 3], 9, 3);
+    let four = put([0, 4], 4, 4);
+    let no_four = delete([0, 5], 4);
+    let no_seven = delete([0, 6], 7);
+    let another_nine = put([0, 7], 9, 6);
     let steps = [
         Step::Applies(0, &CATALOGUE, 0),
-        Step::Applies(0, &put([0, 1], 5, 1), 1),
+        Step::Applies(0, &five, 1),
         Step::Holds(&[(5, 1)]),
-        Step::Applies(0, &put([0, 2], 3, 2), 2),
+        Step::Applies(0, &three, 2),
         Step::Holds(&[(3, 2), (5, 1)]),
-        Step::Applies(0, &put([0, 3], 9, 3), 3),
-        Step::Applies(0, &put([0, 4], 4, 4), 4),
+        Step::Applies(0, &nine, 3),
+        Step::Applies(0, &four, 4),
         Step::Holds(&[(3, 2), (4, 4), (5, 1), (9, 3)]),
-        Step::Applies(0, &delete([0, 5], 4), 5),
+        Step::Applies(0, &no_four, 5),
         Step::Holds(&[(3, 2), (5, 1), (9, 3)]),
-        Step::Applies(0, &delete([0, 6], 7), 6),
+        Step::Applies(0, &no_seven, 6),
         Step::Holds(&[(3, 2), (5, 1), (9, 3)]),
-        Step::Applies(0, &put([0, 7], 9, 6), 7),
+        Step::Applies(0, &another_nine, 7),
         Step::Holds(&[(3, 2), (5, 1), (9, 6)]),
     ];
     goes(&rt, 1, &steps)
