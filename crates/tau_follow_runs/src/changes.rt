@@ -30,21 +30,26 @@ fn rows_come_and_go_one_by_one(rt: HostRuntime) -> Result<(), Fail> {
     let no_four = delete([0, 5], 4);
     let no_seven = delete([0, 6], 7);
     let another_nine = put([0, 7], 9, 6);
+    let one = [(5, 1)];
+    let two = [(3, 2), (5, 1)];
+    let all = [(3, 2), (4, 4), (5, 1), (9, 3)];
+    let left = [(3, 2), (5, 1), (9, 3)];
+    let last = [(3, 2), (5, 1), (9, 6)];
     let steps = [
         Step::Applies(0, &CATALOGUE, 0),
-        Step::Applies(0, &five, 1),
-        Step::Holds(&[(5, 1)]),
-        Step::Applies(0, &three, 2),
-        Step::Holds(&[(3, 2), (5, 1)]),
-        Step::Applies(0, &nine, 3),
-        Step::Applies(0, &four, 4),
-        Step::Holds(&[(3, 2), (4, 4), (5, 1), (9, 3)]),
-        Step::Applies(0, &no_four, 5),
-        Step::Holds(&[(3, 2), (5, 1), (9, 3)]),
-        Step::Applies(0, &no_seven, 6),
-        Step::Holds(&[(3, 2), (5, 1), (9, 3)]),
-        Step::Applies(0, &another_nine, 7),
-        Step::Holds(&[(3, 2), (5, 1), (9, 6)]),
+        Step::Applies(0, five.as_slice(), 1),
+        Step::Holds(one.as_slice()),
+        Step::Applies(0, three.as_slice(), 2),
+        Step::Holds(two.as_slice()),
+        Step::Applies(0, nine.as_slice(), 3),
+        Step::Applies(0, four.as_slice(), 4),
+        Step::Holds(all.as_slice()),
+        Step::Applies(0, no_four.as_slice(), 5),
+        Step::Holds(left.as_slice()),
+        Step::Applies(0, no_seven.as_slice(), 6),
+        Step::Holds(left.as_slice()),
+        Step::Applies(0, another_nine.as_slice(), 7),
+        Step::Holds(last.as_slice()),
     ];
     goes(&rt, 1, &steps)
 }
