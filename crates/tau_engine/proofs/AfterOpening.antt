@@ -22,7 +22,6 @@ use Rattle.tau_report.specs.declared.report.RunEnd.{RunEnd}
 use Rattle.tau_core.specs.declared.opening.Opening.{Opening}
 use Rattle.tau_core.specs.declared.state.Load.{Load}
 use Rattle.tau_core.specs.Opens.{load_of}
-use Rattle.tau_occ.specs.declared.style.Style.TheVariants.{Locking}
 use Rattle.tau_run.specs.Start.{Start, IsStart, opened_at}
 use Rattle.tau_run.specs.CoreRun.{IsLoadOn, IsOpeningOn, IsSoundLoad}
 use Rattle.tau_run.specs.Gives.{CameTo, Concluded, Gave, GaveFrom}
@@ -38,8 +37,9 @@ use Rattle.tau_commands.specs.declared.status.Status.{Status}
 use Rattle.tau_commands.specs.declared.status.Status.TheVariants as status
 use Rattle.tau_commands.specs.Outside.{Output}
 use Rattle.tau_engine.specs.DiskFacts.{Now}
-use Rattle.tau_engine.specs.Runs.{RunsFrom, TellsRun, ran_by}
-use Rattle.tau_engine.specs.RunSays.{DisksAndSink, RunSays, HasSpacedOn}
+use Rattle.tau_engine.specs.Runs.{DisksAndSink, RunsFrom, TellsRun, ran_by}
+use Rattle.tau_engine.specs.declared.run.Choice.{Choice}
+use Rattle.tau_engine.specs.RunSays.{RunSays, HasSpacedOn}
 use Rattle.tau_engine.proofs.OnOpened as on
 use Rattle.tau_engine.proofs.OnStart as run
 use Rattle.tau_engine.proofs.OnlyTouched as touched
@@ -47,10 +47,19 @@ use Rattle.tau_engine.proofs.Ran.{gave_from, loaded_from}
 use Rattle.tau_engine.proofs.RefusedOpening.{says_memory}
 use Rattle.tau_engine.proofs.Streams.{OnlyNow}
 
-module _ {D : Type 0} {G : Ghosts D} (only_now : OnlyNow G) (n m : ℕ) (mode : LogMode) (load : Workload) (some : 1 ≤ n) (room : n ≤ most_streams (format_of mode)) (workers : 1 ≤ m) (sound : IsSoundLoad load) (old mid : List D) (there : n ≤ length old)
-    (o : Opening) (ws : List (Writer D G)) (is_open : IsOpenRun G (format_of mode) n (declarations_text load.declarations) old mid o ws) where
+module _ {D : Type 0} {G : Ghosts D} (only_now : OnlyNow G) (choice : Choice) (load : Workload) (some : 1 ≤ choice.streams) (room : choice.streams ≤ most_streams (format_of choice.mode)) (workers : 1 ≤ choice.workers) (sound : IsSoundLoad load) (old mid : List D) (there : choice.streams ≤ length old)
+    (o : Opening) (ws : List (Writer D G)) (is_open : IsOpenRun G (format_of choice.mode) choice.streams (declarations_text load.declarations) old mid o ws) where
+  abbrev n : ℕ
+  n = choice.streams
+
+  abbrev m : ℕ
+  m = choice.workers
+
+  abbrev mode : LogMode
+  mode = choice.mode
+
   abbrev pub start : Start
-  start = run.start only_now n m mode load old mid there o ws is_open
+  start = run.start only_now choice load old mid there o ws is_open
 
   begins : IsStart (format_of mode) n load start
   begins = (on.opened G (format_of mode) n load old there is_open.sizes is_open.starts is_open.begun).starts
@@ -65,7 +74,7 @@ module _ {D : Type 0} {G : Ghosts D} (only_now : OnlyNow G) (n m : ℕ) (mode : 
   load_is = loaded_from n m mode load start begins o opening_on
 
   abbrev by : Bool → Load → Core → Progress → Type 0
-  by = ran_by load.turns n m load
+  by = ran_by load.turns choice.style n m load
 
   abbrev begun_on : BeginsOn n m mode load start l
   begun_on = record { begins = begins; sound = sound; load_is = load_is }
@@ -76,20 +85,20 @@ module _ {D : Type 0} {G : Ghosts D} (only_now : OnlyNow G) (n m : ℕ) (mode : 
 
     -- ---- nothing was done
 
-    none_begun : after ≡ ws → out.held' ≡ out.held → RunSays G n m mode load with_sink status.NoMemory
+    none_begun : after ≡ ws → out.held' ≡ out.held → RunSays G choice load with_sink status.NoMemory
     none_begun same_writers same =
         let back_same : new ≡ map (disk_of {D = D} {G = G}) ws ++ mid = back ∙ ap (λ (w : List (Writer D G)). map (disk_of {D = D} {G = G}) w ++ mid) same_writers in
         let each : EachIn (λ j. j < n) (TouchedAt G (format_of mode) is_open.sizes is_open.starts) old new = each_back n old new mid ws is_open.count back_same (TouchedAt G (format_of mode) is_open.sizes is_open.starts)
         (λ j d lt was. let (e, is, made) = is_open.disks j d lt was in (e, is, made.0)) in
-        says_memory G only_now n m mode load some room workers sound old new there (rest_back n old new mid ws is_open.count back_same ∙ is_open.rest) out
-        (inr (touched.memory_told only_now n m mode load some room workers sound old new there is_open.sizes is_open.starts is_open.begun each out (λ told. same ∙ sym (append-nil out.held))))
+        says_memory G only_now choice load some room workers sound old new there (rest_back n old new mid ws is_open.count back_same ∙ is_open.rest) out
+        (inr (touched.memory_told only_now choice load some room workers sound old new there is_open.sizes is_open.starts is_open.begun each out (λ told. same ∙ sym (append-nil out.held))))
 
     -- ---- its anchors, in threads, if no disk failed
 
-    module _ (threads : load.turns ≡ None) (e : RunEnd) (c : Concluded (in_threads Locking) (opened_at load start) l ws after out.hears out.held held1 (Rose out.faults faults1) e) (none : e.disk ≡ None) where
+    module _ (threads : load.turns ≡ None) (e : RunEnd) (c : Concluded (in_threads choice.style) (opened_at load start) l ws after out.hears out.held held1 (Rose out.faults faults1) e) (none : e.disk ≡ None) where
       abbrev t : CameTo by (opened_at load start) l ws after c.acks
-      t = of.came_by (in_threads Locking) by (opened_at load start) l ws after
-          (λ whole opening p x. subst (λ (turns : Option (List Turn)). ran_by turns n m load whole l opening p) (sym threads) x) c.came
+      t = of.came_by (in_threads choice.style) by (opened_at load start) l ws after
+          (λ whole opening p x. subst (λ (turns : Option (List Turn)). ran_by turns choice.style n m load whole l opening p) (sym threads) x) c.came
 
       going : NamesLowest l.streams (stops_in c.came.state) None
       going = subst (λ (o : Option ℕ). NamesLowest l.streams (stops_in c.came.state) o) none c.disk
@@ -100,7 +109,7 @@ module _ {D : Type 0} {G : Ghosts D} (only_now : OnlyNow G) (n m : ℕ) (mode : 
       whole_now : (j : ℕ) (x : List ℕ) → j < n → Now G.tells G.may_leave old new j x → HasContent (format_of mode) n j (slice_index_or c.came.contents j []) x
       whole_now j x lt now =
           let over : IsOver n c.came.state = subst (λ (k : ℕ). IsOver k c.came.state) load_is.streams c.over in
-          let leaves = run.leaves_now only_now n m mode load old mid there o ws is_open sound l load_is after new back c.acks t in
+          let leaves = run.leaves_now only_now choice load old mid there o ws is_open sound l load_is after new back c.acks t in
           let last = ends_law n m mode load l c.came.joined c.came.state (of.run_of begun_on t) (of.course begun_on t) (of.is_run begun_on t) over in
           let p = leaves.present j x lt now in
           last.2 j lt (goes j lt) x p.0 p.1 p.2
@@ -111,33 +120,33 @@ module _ {D : Type 0} {G : Ghosts D} (only_now : OnlyNow G) (n m : ℕ) (mode : 
           let same : slice_index_or c.came.contents j [] ≡ content.0 = get_or_from_slice_get c.came.contents j content.0 [] content.1 in (
             content.0,
             subst (λ (b : List ℕ). HasContent (format_of mode) n j b x) same (whole_now j x lt now),
-            apart.thread_spaced begun_on Locking c.came c.whole c.over going j content.0 lt content.1,
+            apart.thread_spaced begun_on choice.style c.came c.whole c.over going j content.0 lt content.1,
           )
 
     abbrev Spaces : Result RunEnd NoMemory → Type 0
     Spaces (Ok e) = load.turns ≡ None → e.disk ≡ None → (j : ℕ) (x : List ℕ) → j < n → Now G.tells G.may_leave old new j x → HasSpacedOn (format_of mode) n j load start x
     Spaces (Err e) = Unit {0}
 
-    spaces : (turns : Option (List Turn)) → load.turns ≡ turns → (end : Result RunEnd NoMemory) → GaveFrom (ran_by turns (length o.ends) m load) o (opened_at load start) m mode load ws after out.hears out.held held1 (Rose out.faults faults1) end → Spaces end
+    spaces : (turns : Option (List Turn)) → load.turns ≡ turns → (end : Result RunEnd NoMemory) → GaveFrom (ran_by turns choice.style (length o.ends) m load) o (opened_at load start) m mode load ws after out.hears out.held held1 (Rose out.faults faults1) end → Spaces end
     spaces turns is (Err e) x = tt
     spaces None is (Ok e) x = λ threads none j y lt now. spaced is e x none j y lt now
     spaces (Some turns) is (Ok e) x = λ threads. absurd (let bad : None ≡ Some turns = sym threads ∙ is in cc bad)
 
     says_gave : faults1 ≤ out.faults' → (end : Result RunEnd NoMemory) → Gave by (opened_at load start) l ws after out.hears out.held held1 (Rose out.faults faults1) end → Spaces end →
-        (answer : Status) → TellsRun load.declarations.tables end out.hears held1 out.held' (Rose faults1 out.faults') answer → RunSays G n m mode load with_sink answer
+        (answer : Status) → TellsRun load.declarations.tables end out.hears held1 out.held' (Rose faults1 out.faults') answer → RunSays G choice load with_sink answer
     says_gave late (Ok e) c spaced answer told =
         let over : IsOver n c.came.state = subst (λ (k : ℕ). IsOver k c.came.state) load_is.streams c.over in
         let complete = of.complete begun_on c.came over c.kept in
-        run.tells_end only_now n m mode load old mid there o ws is_open sound l load_is after new back c.acks c.came e c.whole over complete out held1 faults1 early late c.heard c.sink
+        run.tells_end only_now choice load old mid there o ws is_open sound l load_is after new back c.acks c.came e c.whole over complete out held1 faults1 early late c.heard c.sink
         (subst (λ (k : ℕ). NamesLowest k (stops_in c.came.state) e.disk) load_is.streams c.disk) c.told c.fates c.order c.tables spaced answer told
     says_gave late (Err no_memory) (inl c) spaced answer told =
-        subst (λ (a : Status). RunSays G n m mode load with_sink a) (sym told.0)
-        (run.cuts_off only_now n m mode load old mid there o ws is_open sound l load_is after new back c.acks c.came out held1 faults1 late c.count c.sink_failed c.heard c.sink told.1)
+        subst (λ (a : Status). RunSays G choice load with_sink a) (sym told.0)
+        (run.cuts_off only_now choice load old mid there o ws is_open sound l load_is after new back c.acks c.came out held1 faults1 late c.count c.sink_failed c.heard c.sink told.1)
     says_gave late (Err no_memory) (inr none) spaced answer told =
-        subst (λ (a : Status). RunSays G n m mode load with_sink a) (sym told.0) (none_begun none.0 (told.1 ∙ none.1))
+        subst (λ (a : Status). RunSays G choice load with_sink a) (sym told.0) (none_begun none.0 (told.1 ∙ none.1))
 
-  pub says_run : (out : Output) (new : List D) (answer : Status) → RunsFrom m mode load o (opened_at load start) ws mid new out.hears out.held out.held' out.faults out.faults' answer →
-      RunSays G n m mode load (record { old = old; new = new; sink = out }) answer
+  pub says_run : (out : Output) (new : List D) (answer : Status) → RunsFrom choice load o (opened_at load start) ws (record { old = mid; new = new; sink = out }) answer →
+      RunSays G choice load (record { old = old; new = new; sink = out }) answer
   says_run out new answer r =
-      says_gave out r.after new r.back r.mid r.count r.early r.late r.end (gave_from load.turns n m mode load o (opened_at load start) load_is.streams ws r.after out.hears out.held r.mid (Rose out.faults r.count) r.end r.ran)
+      says_gave out r.after new r.back r.mid r.count r.early r.late r.end (gave_from load.turns choice load o (opened_at load start) load_is.streams ws r.after out.hears out.held r.mid (Rose out.faults r.count) r.end r.ran)
       (spaces out r.after new r.back r.mid r.count r.early load.turns refl r.end r.ran) answer r.told

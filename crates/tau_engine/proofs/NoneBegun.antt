@@ -28,9 +28,19 @@ use Rattle.tau_run.proofs.Imaged.{imaged}
 use Rattle.tau_run.proofs.NotBegun.{nothing_begun}
 use Rattle.tau_run.proofs.Results.{history_law}
 use Rattle.tau_engine.specs.Runs.{ran_by}
+use Rattle.tau_engine.specs.declared.run.Choice.{Choice}
 use Rattle.tau_engine.proofs.NotBegun.{never_stopped}
 
-module _ (n m : ℕ) (mode : LogMode) (load : Workload) (start : Start) (rows : List (Key × Value)) (some : 1 ≤ n) (room : n ≤ most_streams (format_of mode)) (workers : 1 ≤ m) (begins : IsStart (format_of mode) n load start) (sound : IsSoundLoad load) (rows_are : db_of_rows rows ≡ start.base) where
+module _ (choice : Choice) (load : Workload) (start : Start) (rows : List (Key × Value)) (some : 1 ≤ choice.streams) (room : choice.streams ≤ most_streams (format_of choice.mode)) (workers : 1 ≤ choice.workers) (begins : IsStart (format_of choice.mode) choice.streams load start) (sound : IsSoundLoad load) (rows_are : db_of_rows rows ≡ start.base) where
+  abbrev n : ℕ
+  n = choice.streams
+
+  abbrev m : ℕ
+  m = choice.workers
+
+  abbrev mode : LogMode
+  mode = choice.mode
+
   abbrev Nothing : Type 0
   Nothing = (l : Load) × (opening : Core) × (run : Run) × IsFirstState l opening × machine.Run (setting_of l) opening [] [] opening × IsCourse n m mode load run.start l [] opening × IsRunOf n l [] opening load run × (run.start ≡ start) × (run.calls ≡ []) × (run.acks ≡ [])
 
@@ -56,11 +66,11 @@ module _ (n m : ℕ) (mode : LogMode) (load : Workload) (start : Start) (rows : 
   no_acks = nothing.9
 
   -- no event was chosen, by turns or in threads
-  none_chosen : (turns : Option (List Turn)) → ran_by turns n m load false l opening (begun opening)
+  none_chosen : (turns : Option (List Turn)) → ran_by turns choice.style n m load false l opening (begun opening)
   none_chosen None = ((refl, refl), tt)
   none_chosen (Some turns) = ((λ w. []), (todos_of (setting_of l) m n (turns_of load), here))
 
-  core : IsCoreRun (ran_by load.turns n m load false) n m mode load (λ j. None) run
+  core : IsCoreRun (ran_by load.turns choice.style n m load false) n m mode load (λ j. None) run
   core = record {
     stands_on = l;
     load_is = nothing.5.load_is;
@@ -80,7 +90,7 @@ module _ (n m : ℕ) (mode : LogMode) (load : Workload) (start : Start) (rows : 
   MayEnd told.NoMemory = Unit {0}
   MayEnd _ = ⊥
 
-  core_at : (ending : Ending) → MayEnd ending → IsCoreRunAt (ran_by load.turns n m load) n m mode load (λ j. None) run ending
+  core_at : (ending : Ending) → MayEnd ending → IsCoreRunAt (ran_by load.turns choice.style n m load) n m mode load (λ j. None) run ending
   core_at told.Done may = absurd may
   core_at (told.DiskFailed j) may = inr (no_calls, no_acks, λ i lt. refl)
   core_at told.SinkFailed may = absurd may
@@ -98,7 +108,7 @@ module _ (n m : ℕ) (mode : LogMode) (load : Workload) (start : Start) (rows : 
 
   pub facts_of_nothing : (o : Outside) → start ≡ o.start → (ending : Ending) → MayEnd ending →
       (o.began_in_order → IsSound (format_of mode) start.old start.log start.base × ((j : ℕ) (x : List ℕ) → j < n → o.may_have_left j x → HasContent (format_of mode) n j (old_at start j) x ⊎ HasContent (format_of mode) n j (opened_at load start j) x)) →
-      RunTells n mode load o (λ j. None) run ending → RunFacts (ran_by load.turns n m load) n m mode load o ending
+      RunTells n mode load o (λ j. None) run ending → RunFacts (ran_by load.turns choice.style n m load) n m mode load o ending
   facts_of_nothing o begun ending may left tells = record {
     run = run;
     begins = same_start ∙ begun;

@@ -54,14 +54,24 @@ use Rattle.tau_engine.specs.DiskFacts.{DisksWorked, NextClean, Now, ending_of}
 use Rattle.tau_engine.specs.Opening.{opening_calls, SinceBarrier, EmptyAreUnborn}
 use Rattle.tau_commands.specs.Outside.{Output, Wrote}
 use Rattle.tau_commands.specs.Recovery.{images_of}
-use Rattle.tau_engine.specs.Runs.{TellsEnd, ran_by}
-use Rattle.tau_engine.specs.RunSays.{DisksAndSink, EndsRun, FailsStarting, HasRun, OpenedClean, RunSays, HasSpacedOn, outside_of}
+use Rattle.tau_engine.specs.Runs.{DisksAndSink, TellsEnd, ran_by}
+use Rattle.tau_engine.specs.declared.run.Choice.{Choice}
+use Rattle.tau_engine.specs.RunSays.{EndsRun, FailsStarting, HasRun, OpenedClean, RunSays, HasSpacedOn, outside_of}
 use Rattle.tau_engine.proofs.OnOpened as on
 use Rattle.tau_engine.proofs.Reports.{reported_by}
 use Rattle.tau_engine.proofs.Streams.{OnlyNow, Way, Joined, mapped_got, opens_clean, rose_at, clean_below, first_stopped, made_all, leaves}
 use Rattle.tau_engine.proofs.Texts.{heard_front, whole_text, rest_cut, lines_cut, take_long}
 
-module _ {D : Type 0} {G : Ghosts D} (only_now : OnlyNow G) (n m : ℕ) (mode : LogMode) (load : Workload) (old mid : List D) (there : n ≤ length old) (o : Opening) (ws : List (Writer D G)) (is_open : IsOpenRun G (format_of mode) n (declarations_text load.declarations) old mid o ws) where
+module _ {D : Type 0} {G : Ghosts D} (only_now : OnlyNow G) (choice : Choice) (load : Workload) (old mid : List D) (there : choice.streams ≤ length old) (o : Opening) (ws : List (Writer D G)) (is_open : IsOpenRun G (format_of choice.mode) choice.streams (declarations_text load.declarations) old mid o ws) where
+  abbrev n : ℕ
+  n = choice.streams
+
+  abbrev m : ℕ
+  m = choice.workers
+
+  abbrev mode : LogMode
+  mode = choice.mode
+
   abbrev pub f : Format
   f = format_of mode
 
@@ -127,9 +137,9 @@ module _ {D : Type 0} {G : Ghosts D} (only_now : OnlyNow G) (n m : ℕ) (mode : 
 
   -- ---- the run
 
-  module _ (sound : IsSoundLoad load) (l : Load) (load_is : IsLoadOn n m mode load start l) (ws' : List (Writer D G)) (new : List D) (back : new ≡ map disk_of ws' ++ mid) (acks : List (ℕ × List ℕ)) (t : CameTo (ran_by load.turns n m load) (opened_at load start) l ws ws' acks) where
+  module _ (sound : IsSoundLoad load) (l : Load) (load_is : IsLoadOn n m mode load start l) (ws' : List (Writer D G)) (new : List D) (back : new ≡ map disk_of ws' ++ mid) (acks : List (ℕ × List ℕ)) (t : CameTo (ran_by load.turns choice.style n m load) (opened_at load start) l ws ws' acks) where
     abbrev pub by : Bool → Load → Core → Progress → Type 0
-    by = ran_by load.turns n m load
+    by = ran_by load.turns choice.style n m load
 
     abbrev pub K : List (Act Txn)
     K = t.joined
@@ -281,9 +291,9 @@ module _ {D : Type 0} {G : Ghosts D} (only_now : OnlyNow G) (n m : ℕ) (mode : 
       Spaces = load.turns ≡ None → DisksWorked n (RoseAt G.faults old new) answer → (j : ℕ) (x : List ℕ) → j < n → Now G.tells G.may_leave old new j x → HasSpacedOn f n j load start x
 
       abbrev Fails : Type 0
-      Fails = (j : ℕ) → answer ≡ status.DiskFault j → FailsStarting G n m mode load (with_sink out) answer j ⊎ OpenedClean G n m mode load (with_sink out) answer
+      Fails = (j : ℕ) → answer ≡ status.DiskFault j → FailsStarting G choice load (with_sink out) answer j ⊎ OpenedClean G choice load (with_sink out) answer
 
-      has_run : EndsRun answer → RunFacts by n m mode load (known out) (ending_of answer) → Fails → Spaces → HasRun G n m mode load (with_sink out) answer
+      has_run : EndsRun answer → RunFacts by n m mode load (known out) (ending_of answer) → Fails → Spaces → HasRun G choice load (with_sink out) answer
       has_run ends facts fails spaced = record {
         ends = ends;
         start = start;
@@ -307,7 +317,7 @@ module _ {D : Type 0} {G : Ghosts D} (only_now : OnlyNow G) (n m : ℕ) (mode : 
       declared = load.declarations.tables
 
       abbrev Told : Status → Type 0
-      Told answer = RunSays G n m mode load (with_sink out) answer
+      Told answer = RunSays G choice load (with_sink out) answer
 
       report_is : (failed : Option ℕ) → IsReportOf load run failed (report_text declared e.report failed)
       report_is failed =
@@ -418,7 +428,7 @@ module _ {D : Type 0} {G : Ghosts D} (only_now : OnlyNow G) (n m : ℕ) (mode : 
 
     -- it was out of memory before its end: one history, of which the first acknowledgements were told
     pub cuts_off : (out : Output) (held1 : List ℕ) (faults1 : ℕ) → faults1 ≤ out.faults' → (count : ℕ) (sink_failed : Bool) → (out.hears → Heard out.held (take count acks) sink_failed held1) → (sink_failed ≡ true → Rose out.faults faults1) → out.held' ≡ held1 →
-        RunSays G n m mode load (with_sink out) status.NoMemory
+        RunSays G choice load (with_sink out) status.NoMemory
     cuts_off out held1 faults1 late count sink_failed heard sink same = record {
       tells = inr (has_run out status.NoMemory tt
           (facts out ending.NoMemory (core_run false t.part) (

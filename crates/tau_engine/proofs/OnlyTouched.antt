@@ -31,7 +31,9 @@ use Rattle.tau_commands.specs.Fault.{fault_text}
 use Rattle.tau_engine.specs.Opening.{opening_calls, SinceBarrier, EmptyAreUnborn}
 use Rattle.tau_commands.specs.Outside.{Output, Wrote}
 use Rattle.tau_commands.specs.Recovery.{images_of}
-use Rattle.tau_engine.specs.RunSays.{DisksAndSink, EndsRun, FailsStarting, HasRun, outside_of}
+use Rattle.tau_engine.specs.Runs.{DisksAndSink}
+use Rattle.tau_engine.specs.declared.run.Choice.{Choice}
+use Rattle.tau_engine.specs.RunSays.{EndsRun, FailsStarting, HasRun, outside_of}
 use Rattle.tau_engine.proofs.NoneBegun as none
 use Rattle.tau_engine.proofs.OnOpened as on
 use Rattle.tau_engine.proofs.Streams.{OnlyNow}
@@ -39,8 +41,14 @@ use Rattle.tau_engine.proofs.Streams.{OnlyNow}
 same_disk : (j i : ℕ) → status.DiskFault j ≡ status.DiskFault i → j ≡ i
 same_disk j i e = cc
 
-module _ {D : Type 0} {G : Ghosts D} (only_now : OnlyNow G) (n m : ℕ) (mode : LogMode) (load : Workload) (some : 1 ≤ n) (room : n ≤ most_streams (format_of mode)) (workers : 1 ≤ m) (sound : IsSoundLoad load) (old new : List D) (there : n ≤ length old)
-    (sizes : List ℕ) (starts : List StreamStart) (begun : IsBegun G (format_of mode) (declarations_text load.declarations) (take n old) sizes starts) (each : EachIn (λ j. j < n) (TouchedAt G (format_of mode) sizes starts) old new) where
+module _ {D : Type 0} {G : Ghosts D} (only_now : OnlyNow G) (choice : Choice) (load : Workload) (some : 1 ≤ choice.streams) (room : choice.streams ≤ most_streams (format_of choice.mode)) (workers : 1 ≤ choice.workers) (sound : IsSoundLoad load) (old new : List D) (there : choice.streams ≤ length old)
+    (sizes : List ℕ) (starts : List StreamStart) (begun : IsBegun G (format_of choice.mode) (declarations_text load.declarations) (take choice.streams old) sizes starts) (each : EachIn (λ j. j < choice.streams) (TouchedAt G (format_of choice.mode) sizes starts) old new) where
+  abbrev n : ℕ
+  n = choice.streams
+
+  abbrev mode : LogMode
+  mode = choice.mode
+
   abbrev pub start : Start
   start = on.start G (format_of mode) n load old there sizes starts begun
 
@@ -131,9 +139,9 @@ module _ {D : Type 0} {G : Ghosts D} (only_now : OnlyNow G) (n m : ℕ) (mode : 
     abbrev rows_are : db_of_rows begun.opening.rows ≡ start.base
     rows_are = (on.opening_on G (format_of mode) n load old there sizes starts begun begun.opening refl).rows
 
-    has_nothing : (answer : Status) → EndsRun answer → none.MayEnd n m mode load start begun.opening.rows some room workers begins sound rows_are (ending_of answer) →
-        RunTells n mode load known (λ j. None) (none.run n m mode load start begun.opening.rows some room workers begins sound rows_are) (ending_of answer) →
-        ((j : ℕ) → answer ≡ status.DiskFault j → FailsStarting G n m mode load with_sink answer j) → (DisksWorked n (RoseAt G.faults old new) answer → ⊥) → HasRun G n m mode load with_sink answer
+    has_nothing : (answer : Status) → EndsRun answer → none.MayEnd choice load start begun.opening.rows some room workers begins sound rows_are (ending_of answer) →
+        RunTells n mode load known (λ j. None) (none.run choice load start begun.opening.rows some room workers begins sound rows_are) (ending_of answer) →
+        ((j : ℕ) → answer ≡ status.DiskFault j → FailsStarting G choice load with_sink answer j) → (DisksWorked n (RoseAt G.faults old new) answer → ⊥) → HasRun G choice load with_sink answer
     has_nothing answer ends may told fails broke = record {
       ends = ends;
       start = start;
@@ -142,23 +150,23 @@ module _ {D : Type 0} {G : Ghosts D} (only_now : OnlyNow G) (n m : ℕ) (mode : 
       fits = λ tells. on.fits_are G (format_of mode) n load old there sizes starts begun tells;
       barrier = barrier;
       barriers = barriers;
-      facts = none.facts_of_nothing n m mode load start begun.opening.rows some room workers begins sound rows_are known refl (ending_of answer) may (λ u. (u.1, λ j x lt q. past_left u.0 j x lt q)) told;
+      facts = none.facts_of_nothing choice load start begun.opening.rows some room workers begins sound rows_are known refl (ending_of answer) may (λ u. (u.1, λ j x lt q. past_left u.0 j x lt q)) told;
       fails = λ j e. inl (fails j e);
       spaced = λ threads worked. absurd (broke worked);
     }
 
     -- what is told of it where memory ran out, and where a disk failed
-    pub memory_told : Wrote o.hears o.held o.held' [] → HasRun G n m mode load with_sink status.NoMemory
+    pub memory_told : Wrote o.hears o.held o.held' [] → HasRun G choice load with_sink status.NoMemory
     memory_told silent = has_nothing status.NoMemory tt tt (0, inl silent) (λ j e. absurd (cc)) (λ worked. worked)
 
     pub failed_told : (j : ℕ) → ((k : ℕ) × (calls_before_writes (slice_index (map length (images_of G.seen old n)) j) < k) × (k ≤ opening_calls (map length (images_of G.seen old n)) j) × (G.tells → Made G.number G.short old new j k)) →
-        ending.WroteFront (Wrote o.hears o.held o.held') (Rose o.faults o.faults') (fault_text (status.DiskFault j)) → HasRun G n m mode load with_sink (status.DiskFault j)
+        ending.WroteFront (Wrote o.hears o.held o.held') (Rose o.faults o.faults') (fault_text (status.DiskFault j)) → HasRun G choice load with_sink (status.DiskFault j)
     failed_told j made line =
         has_nothing (status.DiskFault j) tt tt
         (inr (
-          none.no_calls n m mode load start begun.opening.rows some room workers begins sound rows_are,
-          none.no_acks n m mode load start begun.opening.rows some room workers begins sound rows_are,
+          none.no_calls choice load start begun.opening.rows some room workers begins sound rows_are,
+          none.no_acks choice load start begun.opening.rows some room workers begins sound rows_are,
           (made.0, made.2, made.3),
           line,
         ))
-        (λ i e. subst (λ (k : ℕ). FailsStarting G n m mode load with_sink (status.DiskFault j) k) (same_disk j i e) (made, line)) (λ worked. worked)
+        (λ i e. subst (λ (k : ℕ). FailsStarting G choice load with_sink (status.DiskFault j) k) (same_disk j i e) (made, line)) (λ worked. worked)

@@ -23,9 +23,10 @@ use Rattle.tau_run.specs.Turns.{Progress}
 use Rattle.tau_run.proofs.Came.{gave_by}
 use Rattle.tau_run.proofs.Fresh.{fresh_opened}
 use Rattle.tau_engine.specs.Runs.{ran_by}
+use Rattle.tau_engine.specs.declared.run.Choice.{Choice}
 
 -- in a drill nothing more is asked of the events of a run in threads than that they are some
-pub as_chosen : (turns : Option (List Turn)) (n m : ℕ) (load : Workload) (whole : Bool) (l : Load) (opening : Core) (p : Progress) → ran_by turns n m load whole l opening p → chosen_by turns Locking n m load whole l opening p
+pub as_chosen : (turns : Option (List Turn)) (n m : ℕ) (load : Workload) (whole : Bool) (l : Load) (opening : Core) (p : Progress) → ran_by turns Locking n m load whole l opening p → chosen_by turns Locking n m load whole l opening p
 as_chosen None n m load whole l opening p x = tt
 as_chosen (Some turns) n m load whole l opening p x = x
 
@@ -53,7 +54,7 @@ loaded_from n m mode load start begins o on = record {
 }
 
 -- it stands on the start that it was opened for
-pub gave_from : {D : Type 0} {G : Ghosts D} (turns : Option (List Turn)) (n m : ℕ) (mode : LogMode) (load : Workload) (o : Opening) (bases : ℕ → List ℕ) → length o.ends ≡ n → (ws ws' : List (Writer D G)) (hears : Type 0) (held held' : List ℕ) (sink_rose : Type 0) (result : Result RunEnd NoMemory) →
-    GaveFrom (ran_by turns (length o.ends) m load) o bases m mode load ws ws' hears held held' sink_rose result → Gave (ran_by turns n m load) bases (load_of load.declarations.procs load.calls mode m o) ws ws' hears held held' sink_rose result
-gave_from turns n m mode load o bases count ws ws' hears held held' sink_rose result x =
-    subst (λ (k : ℕ). Gave (ran_by turns k m load) bases (load_of load.declarations.procs load.calls mode m o) ws ws' hears held held' sink_rose result) count x
+pub gave_from : {D : Type 0} {G : Ghosts D} (turns : Option (List Turn)) (choice : Choice) (load : Workload) (o : Opening) (bases : ℕ → List ℕ) → length o.ends ≡ choice.streams → (ws ws' : List (Writer D G)) (hears : Type 0) (held held' : List ℕ) (sink_rose : Type 0) (result : Result RunEnd NoMemory) →
+    GaveFrom (ran_by turns choice.style (length o.ends) choice.workers load) o bases choice.workers choice.mode load ws ws' hears held held' sink_rose result → Gave (ran_by turns choice.style choice.streams choice.workers load) bases (load_of load.declarations.procs load.calls choice.mode choice.workers o) ws ws' hears held held' sink_rose result
+gave_from turns choice load o bases count ws ws' hears held held' sink_rose result x =
+    subst (λ (k : ℕ). Gave (ran_by turns choice.style k choice.workers load) bases (load_of load.declarations.procs load.calls choice.mode choice.workers o) ws ws' hears held held' sink_rose result) count x

@@ -3,7 +3,6 @@ use Rattle.std.proofs.Common.{ℕ, ◌+◌, ◌-◌, ◌<◌, ◌≤◌, ◌≡�
 use Rattle.std.specs.Prelude.{Some, None, nat_le, slice_get, slice_index, if◌then◌else◌}
 use Rattle.std.proofs.lemmas.Bool.{cases_eq}
 use Rattle.tau_base.specs.declared.format.Format.{Format}
-use Rattle.tau_base.specs.declared.value.LogMode.{LogMode}
 use Rattle.tau_base.specs.Modes.{format_of, most_streams}
 use Rattle.tau_base.proofs.Lists.{got_within, some_at}
 use Rattle.tau_base.proofs.Logic.{some_is, below_or_not}
@@ -41,7 +40,9 @@ use Rattle.tau_engine.specs.Opening.{opening_calls, HasBarrier, IsUnwritten}
 use Rattle.tau_commands.specs.Outside.{Output, Wrote}
 use Rattle.tau_commands.specs.Recovery.{images_of}
 use Rattle.tau_commands.specs.First.{status_at}
-use Rattle.tau_engine.specs.RunSays.{DisksAndSink, HasRun, IsRunRefused, OnlyOpened, RunSays}
+use Rattle.tau_engine.specs.Runs.{DisksAndSink}
+use Rattle.tau_engine.specs.declared.run.Choice.{Choice}
+use Rattle.tau_engine.specs.RunSays.{HasRun, IsRunRefused, OnlyOpened, RunSays}
 use Rattle.tau_engine.proofs.OnOpened.{calls_are, same_sizes, size_is, starts_long}
 use Rattle.tau_engine.proofs.OnlyTouched as touched
 use Rattle.tau_engine.proofs.Streams.{OnlyNow}
@@ -76,10 +77,13 @@ late_made G before count d e some within = (
   λ t whole. (let both = within t whole in let low = both.0 in let high = both.1 in omega (arith, low, high, some)),
 )
 
-module _ {D : Type 0} (G : Ghosts D) (only_now : OnlyNow G) (n m : ℕ) (mode : LogMode) (load : Workload) (some : 1 ≤ n) (room : n ≤ most_streams (format_of mode)) (workers : 1 ≤ m) (sound : IsSoundLoad load) (old new : List D) (there : n ≤ length old) (rest : drop n new ≡ drop n old)
+module _ {D : Type 0} (G : Ghosts D) (only_now : OnlyNow G) (choice : Choice) (load : Workload) (some : 1 ≤ choice.streams) (room : choice.streams ≤ most_streams (format_of choice.mode)) (workers : 1 ≤ choice.workers) (sound : IsSoundLoad load) (old new : List D) (there : choice.streams ≤ length old) (rest : drop choice.streams new ≡ drop choice.streams old)
     (o : Output) where
+  abbrev n : ℕ
+  n = choice.streams
+
   abbrev f : Format
-  f = format_of mode
+  f = format_of choice.mode
 
   abbrev text : List ℕ
   text = declarations_text load.declarations
@@ -91,7 +95,7 @@ module _ {D : Type 0} (G : Ghosts D) (only_now : OnlyNow G) (n m : ℕ) (mode : 
   with_sink = record { old = old; new = new; sink = o }
 
   abbrev Told : Status → Type 0
-  Told answer = RunSays G n m mode load with_sink answer
+  Told answer = RunSays G choice load with_sink answer
 
   abbrev wrote : List ℕ → Type 0
   wrote = Wrote o.hears o.held o.held'
@@ -189,7 +193,7 @@ module _ {D : Type 0} (G : Ghosts D) (only_now : OnlyNow G) (n m : ℕ) (mode : 
 
   -- ---- memory ran out
 
-  pub says_memory : OnlyOpened G n m mode load with_sink status.NoMemory ⊎ HasRun G n m mode load with_sink status.NoMemory → Told status.NoMemory
+  pub says_memory : OnlyOpened G choice load with_sink status.NoMemory ⊎ HasRun G choice load with_sink status.NoMemory → Told status.NoMemory
   says_memory tells = record {
     tells = tells;
     kind = tt;
@@ -214,7 +218,7 @@ module _ {D : Type 0} (G : Ghosts D) (only_now : OnlyNow G) (n m : ℕ) (mode : 
     pub here : OfDisk (Broke G count) old new j
     pub clean : EachIn (λ i. i < j) (λ i. IsClean G.tells G.number G.fails) old new
 
-  says_failed : (count j : ℕ) → IsFailed count j → OnlyOpened G n m mode load with_sink (status.DiskFault j) ⊎ HasRun G n m mode load with_sink (status.DiskFault j) → Told (status.DiskFault j)
+  says_failed : (count j : ℕ) → IsFailed count j → OnlyOpened G choice load with_sink (status.DiskFault j) ⊎ HasRun G choice load with_sink (status.DiskFault j) → Told (status.DiskFault j)
   says_failed count j failed tells =
       let (d, e, was, is, broke) = failed.here in
       let same : (i : ℕ) → status.DiskFault j ≡ status.DiskFault i → j ≡ i = λ i f. cc in
@@ -404,9 +408,9 @@ module _ {D : Type 0} (G : Ghosts D) (only_now : OnlyNow G) (n m : ℕ) (mode : 
 
   silent_memory : (r : ScanRefusal) → RefusesRun G f n text old new r → wrote [] → Told status.NoMemory
   silent_memory refusal.NoMemory (inl only) silent = only_memory (most_barred only) silent
-  silent_memory refusal.NoMemory (inr (k, le, s)) silent = says_memory (inr (touched.memory_told only_now n m mode load some room workers sound old new there s.sizes s.starts s.begun (some_touched k s) o silent))
+  silent_memory refusal.NoMemory (inr (k, le, s)) silent = says_memory (inr (touched.memory_told only_now choice load some room workers sound old new there s.sizes s.starts s.begun (some_touched k s) o silent))
   silent_memory (refusal.Failed j) (inl (stop, only)) silent = only_memory (most_barred only) silent
-  silent_memory (refusal.Failed j) (inr s) silent = says_memory (inr (touched.memory_told only_now n m mode load some room workers sound old new there s.sizes s.starts s.begun (stops_touched j s) o silent))
+  silent_memory (refusal.Failed j) (inr s) silent = says_memory (inr (touched.memory_told only_now choice load some room workers sound old new there s.sizes s.starts s.begun (stops_touched j s) o silent))
   silent_memory (refusal.Bad fault) refuses silent = only_memory (read_barred fault refuses) silent
 
   told_so : (r : ScanRefusal) → RefusesRun G f n text old new r → WroteFront wrote sink_rose (fault_text (status_at r)) → Told (status_at r)
@@ -415,7 +419,7 @@ module _ {D : Type 0} (G : Ghosts D) (only_now : OnlyNow G) (n m : ℕ) (mode : 
   told_so (refusal.Failed j) (inr s) line =
       let starting = stops_starting j s in
       says_failed (opening_calls sizes j) j starting.failed
-      (inr (touched.failed_told only_now n m mode load some room workers sound old new there s.sizes s.starts s.begun (stops_touched j s) o j starting.made line))
+      (inr (touched.failed_told only_now choice load some room workers sound old new there s.sizes s.starts s.begun (stops_touched j s) o j starting.made line))
   told_so (refusal.Bad fault) refuses line = says_bad fault refuses line
 
   pub says_refused : (r : ScanRefusal) → RefusesRun G f n text old new r → (answer : Status) → TellsFault wrote sink_rose (status_at r) answer → Told answer

@@ -179,7 +179,7 @@ module _ {D : Type 0} {G : Ghosts D} (only_now : OnlyNow G) (n m : ℕ) (load : 
 module _ {D : Type 0} {G : Ghosts D} (only_now : OnlyNow G) (n m : ℕ) (load : Workload) (room : n ≤ 16) (sound : IsSoundLoad load) (old mid new : List D) (many : n ≤ length old) (ws : List (Writer D G))
     (streams : AreOpened G n (catalogue_of load) old mid ws) (tells : G.tells) (hears : Type 0) (held held' : List ℕ) (rose : Type 0) (rows : List (Key × Value)) (q : PlaysWell m load ws mid new hears held held' rose rows) where
   h_gave : (l : Load) × IsLoadOn n m Values load (fresh_start n) l × Concluded (chosen_by load.turns Locking n m load) (opened_at load (fresh_start n)) l ws q.after hears held held' rose q.end
-  h_gave = gave (λ k. ran_by load.turns k m load) (chosen_by load.turns Locking n m load) n m Values load (as_chosen load.turns n m load) ws q.after streams.count hears held held' rose (Ok q.end) q.ran
+  h_gave = gave (λ k. ran_by load.turns Locking k m load) (chosen_by load.turns Locking n m load) n m Values load (as_chosen load.turns n m load) ws q.after streams.count hears held held' rose (Ok q.end) q.ran
 
   going : NamesLowest n (stops_in h_gave.2.came.state) None
   going = subst (λ (o : Option ℕ). NamesLowest n (stops_in h_gave.2.came.state) o) q.whole (lowest only_now n m load old mid new many ws q.after streams q.back tells hears held held' rose q.end sound h_gave.0 h_gave.1 (chosen_by load.turns Locking n m load) (λ whole opening p x. x) h_gave.2 q.heard)

@@ -2,7 +2,6 @@
 use Rattle.std.proofs.Common.{ℕ, ◌+◌, ◌-◌, ◌<◌, ◌≤◌, ◌≡◌, ◌⊎◌, inl, inr, ⊎_elim, true, false, List, [], map, length, refl, sym, ap, subst, ◌∙◌, arith}
 use Rattle.std.specs.Prelude.{None, Some, Ok, Err, Option, Result, slice_get, slice_index}
 use Rattle.tau_base.specs.declared.format.Format.{Format}
-use Rattle.tau_base.specs.declared.value.LogMode.{LogMode}
 use Rattle.tau_base.specs.Modes.{format_of}
 use Rattle.tau_base.proofs.Logic.{below_or_not}
 use Rattle.tau_disk.specs.declared.disk.Disk.{Ghosts}
@@ -28,7 +27,9 @@ use Rattle.tau_engine.specs.Opening.{EmptyAreUnborn, HasBarrier, IsUnwritten, op
 use Rattle.tau_commands.specs.Outside.{FailsTold, Output, Wrote, ends_text, ends_recovery, is_before_disks}
 use Rattle.tau_commands.specs.Recovery.{EndsAsBad, EndsTangled, IsTangle, IsUnfit, images_of}
 use Rattle.tau_engine.proofs.Streams.{OnlyNow}
-use Rattle.tau_engine.specs.RunSays.{DisksAndSink, EndsRun, EndsUnwritten, HasRun, IsRunRefused, MayEnd, OnlyOpened, RunSays}
+use Rattle.tau_engine.specs.Runs.{DisksAndSink}
+use Rattle.tau_engine.specs.declared.run.Choice.{Choice}
+use Rattle.tau_engine.specs.RunSays.{EndsRun, EndsUnwritten, HasRun, IsRunRefused, MayEnd, OnlyOpened, RunSays}
 
 -- a run ends in one of the ways in which a recovery does
 pub may_end : (s : Status) → MayEnd s → ends_recovery s ≡ true
@@ -99,7 +100,7 @@ abbrev moment_of : {D : Type 0} → (D → ℕ) → Option D → ℕ
 moment_of moment None = 0
 moment_of moment (Some d) = moment d
 
-module _ {D : Type 0} (G : Ghosts D) (only_now : OnlyNow G) (n m : ℕ) (mode : LogMode) (load : Workload) (old : List D) (o : Output) where
+module _ {D : Type 0} (G : Ghosts D) (only_now : OnlyNow G) (choice : Choice) (load : Workload) (old : List D) (o : Output) where
   abbrev as_they_were : DisksAndSink D
   as_they_were = record { old = old; new = old; sink = o }
 
@@ -118,7 +119,7 @@ module _ {D : Type 0} (G : Ghosts D) (only_now : OnlyNow G) (n m : ℕ) (mode : 
   still_at j d was has = subst (λ (b : ℕ). IsUnwritten G b d d) (sym (ap (λ (e : Option D). moment_of G.moment e) was)) (still d has)
 
   -- memory ran out before the disks were asked
-  out_of_memory : Wrote o.hears o.held o.held' [] → RunSays G n m mode load as_they_were status.NoMemory
+  out_of_memory : Wrote o.hears o.held o.held' [] → RunSays G choice load as_they_were status.NoMemory
   out_of_memory silent = record {
     tells = inl (record {
       ends = silent;
@@ -138,14 +139,17 @@ module _ {D : Type 0} (G : Ghosts D) (only_now : OnlyNow G) (n m : ℕ) (mode : 
     rest = refl;
   }
 
-  pub untouched : (answer : Status) → answer ≡ status.NoMemory → (answer ≡ status.NoMemory → Wrote o.hears o.held o.held' []) → RunSays G n m mode load as_they_were answer
-  untouched answer is silent = subst (λ (s : Status). RunSays G n m mode load as_they_were s) (sym is) (out_of_memory (silent is))
+  pub untouched : (answer : Status) → answer ≡ status.NoMemory → (answer ≡ status.NoMemory → Wrote o.hears o.held o.held' []) → RunSays G choice load as_they_were answer
+  untouched answer is silent = subst (λ (s : Status). RunSays G choice load as_they_were s) (sym is) (out_of_memory (silent is))
 
 -- ---- what was said
 
-module _ {D : Type 0} {G : Ghosts D} {n m : ℕ} {mode : LogMode} {load : Workload} {w : DisksAndSink D} {answer : Status} (says : RunSays G n m mode load w answer) where
+module _ {D : Type 0} {G : Ghosts D} {choice : Choice} {load : Workload} {w : DisksAndSink D} {answer : Status} (says : RunSays G choice load w answer) where
+  abbrev n : ℕ
+  n = choice.streams
+
   abbrev f : Format
-  f = format_of mode
+  f = format_of choice.mode
 
   abbrev text : List ℕ
   text = declarations_text load.declarations
@@ -154,14 +158,14 @@ module _ {D : Type 0} {G : Ghosts D} {n m : ℕ} {mode : LogMode} {load : Worklo
   images = images_of G.seen w.old n
 
   abbrev Unwritten : Status → Type 0
-  Unwritten s = EndsUnwritten G n m mode load w answer s
+  Unwritten s = EndsUnwritten G choice load w answer s
 
   -- the line of a refusal was written, or a first part of it if the sink failed
   abbrev LineTold : Type 0
   LineTold = WroteFront (Wrote w.sink.hears w.sink.held w.sink.held') (Rose w.sink.faults w.sink.faults') (fault_text answer)
 
   -- the log on which the run went on
-  has_log : (run : HasRun G n m mode load w answer) → G.tells → log_of (Some f) images ≡ Ok run.start.log
+  has_log : (run : HasRun G choice load w answer) → G.tells → log_of (Some f) images ≡ Ok run.start.log
   has_log run tells = log_there f images run.start.old run.start.log (run.contents tells) run.begins.reads
 
   -- ---- a refusal
@@ -195,14 +199,14 @@ module _ {D : Type 0} {G : Ghosts D} {n m : ℕ} {mode : LogMode} {load : Worklo
   pub refusal_line : is_refusal answer ≡ true → LineTold
   refusal_line e = by says.tells
     where
-      by : OnlyOpened G n m mode load w answer ⊎ HasRun G n m mode load w answer → LineTold
+      by : OnlyOpened G choice load w answer ⊎ HasRun G choice load w answer → LineTold
       by (inl only) = line_of answer only.ends e
       by (inr run) = absurd (runs_well answer run.ends e)
 
   pub refusal_synced : (fault : LogFault) → answer ≡ status.BadLog fault → EachUsed (OnlySynced G) w.old w.new n
   refusal_synced fault e = by says.tells
     where
-      by : OnlyOpened G n m mode load w answer ⊎ HasRun G n m mode load w answer → EachUsed (OnlySynced G) w.old w.new n
+      by : OnlyOpened G choice load w answer ⊎ HasRun G choice load w answer → EachUsed (OnlySynced G) w.old w.new n
       by (inl only) = only.only
       by (inr run) = absurd (subst EndsRun e run.ends)
 
@@ -245,7 +249,7 @@ module _ {D : Type 0} {G : Ghosts D} {n m : ℕ} {mode : LogMode} {load : Worklo
             ]
           ]
 
-      by : OnlyOpened G n m mode load w answer ⊎ HasRun G n m mode load w answer → FailsTold (opening_calls (map length images) j) (Made G.number G.short w.old w.new j) LineTold
+      by : OnlyOpened G choice load w answer ⊎ HasRun G choice load w answer → FailsTold (opening_calls (map length images) j) (Made G.number G.short w.old w.new j) LineTold
       by (inl only) = unwritten answer refl only.ends e
       by (inr run) = elim (run.fails j e) [
         | inl starting ↦ (let (k, late, le, made) = starting.0 in inl (k, le, made tells, starting.1))
@@ -257,7 +261,7 @@ module _ {D : Type 0} {G : Ghosts D} {n m : ℕ} {mode : LogMode} {load : Worklo
   pub not_earlier : EmptyAreUnborn G w.old n → EachUsed (NotEarlier G.tells G.moment) w.old w.new n
   not_earlier unborn = by says.tells
     where
-      by : OnlyOpened G n m mode load w answer ⊎ HasRun G n m mode load w answer → EachUsed (NotEarlier G.tells G.moment) w.old w.new n
+      by : OnlyOpened G choice load w answer ⊎ HasRun G choice load w answer → EachUsed (NotEarlier G.tells G.moment) w.old w.new n
       by (inl only) j d lt was = let (e, is, synced) = only.only j d lt was in (e, is, λ t. synced.moments.later)
       by (inr run) j d lt was =
           let (e, is, has) = run.barriers unborn j d lt was in
@@ -286,7 +290,7 @@ module _ {D : Type 0} {G : Ghosts D} {n m : ℕ} {mode : LogMode} {load : Worklo
         begun log reads fits (inl bad) = no_log f images fault log bad reads
         begun log reads fits (inr (log', reads', found)) = no_fault f images text log fault (subst (λ (l : Log). begins_fault text (map length images) l ≡ Some fault) (same_log f images log' log reads' reads) found) fits
 
-        by : OnlyOpened G n m mode load w answer ⊎ HasRun G n m mode load w answer → EndsAsBad fault answer
+        by : OnlyOpened G choice load w answer ⊎ HasRun G choice load w answer → EndsAsBad fault answer
         by (inl only) = unwritten answer refl only.ends
         by (inr run) = absurd (begun run.start.log (has_log run tells) (run.fits tells) is)
 
@@ -306,7 +310,7 @@ module _ {D : Type 0} {G : Ghosts D} {n m : ℕ} {mode : LogMode} {load : Worklo
         unwritten (status.BadFeed at) e ends = absurd ends
         unwritten (status.BadReport number) e ends = absurd ends
 
-        by : OnlyOpened G n m mode load w answer ⊎ HasRun G n m mode load w answer → EndsTangled log answer
+        by : OnlyOpened G choice load w answer ⊎ HasRun G choice load w answer → EndsTangled log answer
         by (inl only) = unwritten answer refl only.ends
         by (inr run) =
             let (order, is, redoes) = run.begins.redone in

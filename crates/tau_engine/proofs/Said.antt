@@ -1,5 +1,5 @@
 -- What is said of a call, from what is said of its command.
-use Rattle.std.proofs.Common.{ℕ, true, false, ◌+◌, ◌≡◌, ◌<◌, ◌≤◌, ◌⊎◌, inl, inr, refl, sym, ap, ◌∙◌, subst, List, [], ◌∷◌, drop, length, arith}
+use Rattle.std.proofs.Common.{ℕ, Bool, true, false, ◌+◌, ◌≡◌, ◌<◌, ◌≤◌, ◌⊎◌, inl, inr, refl, sym, ap, ◌∙◌, subst, List, [], ◌∷◌, drop, length, arith}
 use Rattle.std.specs.Prelude.{Option, Some, None, Result, Ok, Err, slice_get}
 use Rattle.tau_base.proofs.Logic.{below_or_not}
 use Rattle.tau_base.specs.declared.limits.TheConstants.{MAX_STREAMS, MAX_WORKLOAD}
@@ -32,7 +32,8 @@ use Rattle.tau_commands.specs.Following.{OfFollow, EndsFollowing, ends_following
 use Rattle.tau_commands.specs.Outside.{Input, Output, HasWorkload, HasFault, ends_drill, ends_recovery, ends_rehearsal, ends_text, is_behind_text, is_behind_end, is_behind_reading, is_before_disks}
 use Rattle.tau_commands.specs.Reads.{HasOnlyRead, HasReadSource}
 use Rattle.tau_engine.specs.RunSays.{MayEnd, RunSays}
-use Rattle.tau_engine.specs.Served.{streams_of, uses_slots, reads_source, writes_at_end, only_reads}
+use Rattle.tau_engine.specs.Runs.{choice_of}
+use Rattle.tau_engine.specs.Kinds.{streams_of, uses_slots, reads_source, writes_at_end, only_reads}
 use Rattle.tau_commands.specs.Sources.{HasSource, RefusesSource, is_of_source}
 use Rattle.tau_engine.specs.Top.{Says, Untouched, Uses, Written, finds_log, is_told_late}
 use Rattle.tau_commands.proofs.Ends.{no_refusal, rehearsal_recovers, rehearses_well, recovers_well, no_source, other}
@@ -111,7 +112,7 @@ module _ {D : Type 0} (G : Ghosts D) (M : Ghosts MemDisk) (s : Input) (o : Outpu
   of_nothing : OnlyNow G → (old : List D) (c : Option Command) → wrote o status.NoMemory [] → Of G M s o old old status.NoMemory c
   of_nothing only_now old None silent = tt
   of_nothing only_now old (Some (Run n m mode optimistic)) silent = record {
-    run = λ t load has behind. of.untouched G only_now n m mode load old o status.NoMemory refl (λ e. silent);
+    run = λ t load has behind. of.untouched G only_now (choice_of n m mode optimistic) load old o status.NoMemory refl (λ e. silent);
     bad_log = λ fault e. absurd (cc e);
     unfit_told = λ t tells load fault has behind unfit. tt;
     stuck_told = λ t tells load log has behind reads fits none. tt;
@@ -393,9 +394,9 @@ module _ {D : Type 0} (G : Ghosts D) (M : Ghosts MemDisk) (s : Input) (o : Outpu
 
   -- ---- a run
 
-  module _ (n m : ℕ) (mode : LogMode) where
+  module _ (n m : ℕ) (mode : LogMode) (optimistic : Bool) where
     abbrev run : Option Command
-    run = Some (Run n m mode false)
+    run = Some (Run n m mode optimistic)
 
     -- a text of a workload is not refused
     fits_source : (load : Workload) → HasWorkload s.left load → (refusal : Status) → RefusesSource run s.left refusal → ⊥
@@ -568,7 +569,7 @@ module _ {D : Type 0} (G : Ghosts D) (M : Ghosts MemDisk) (s : Input) (o : Outpu
               calls = λ e. absurd (cc e);
             };
             of = record {
-              run = λ t load has behind. of.untouched G only_now n m mode load old o a (only_memory a ended.0 behind) ended.1;
+              run = λ t load has behind. of.untouched G only_now (choice_of n m mode optimistic) load old o a (only_memory a ended.0 behind) ended.1;
               bad_log = λ fault e. absurd (other ends_text a (status.BadLog fault) ended.0 refl e);
               unfit_told = λ t tells' load fault has behind unfit. subst (λ (x : Status). EndsAsBad fault x) (sym (only_memory a ended.0 behind)) tt;
               stuck_told = λ t tells' load log has behind reads fits none. subst (λ (x : Status). EndsTangled log x) (sym (only_memory a ended.0 behind)) tt;
@@ -586,7 +587,7 @@ module _ {D : Type 0} (G : Ghosts D) (M : Ghosts MemDisk) (s : Input) (o : Outpu
 
     -- the workload was run, or refused for what the disks hold
     pub says_run : (old new : List D) (a : Status) (load : Workload) → (s.tells → HasWorkload s.left load) → (s.tells → s.left' ≡ []) → (s.tells → (k : ℕ) × (k ≤ MAX_WORKLOAD + 1) × (s.left' ≡ drop k s.left)) →
-        RunSays G n m mode load (record { old = old; new = new; sink = o }) a → Says G M s o old new run a
+        RunSays G (choice_of n m mode optimistic) load (record { old = old; new = new; sink = o }) a → Says G M s o old new run a
     says_run old new a load has end source q =
         let kind = may_end a q.kind in record {
           causes = record {
@@ -634,5 +635,5 @@ module _ {D : Type 0} (G : Ghosts D) (M : Ghosts MemDisk) (s : Input) (o : Outpu
           };
         }
       where
-        at : s.tells → (load' : Workload) → HasWorkload s.left load' → RunSays G n m mode load' (record { old = old; new = new; sink = o }) a
-        at t load' has' = subst (λ (l : Workload). RunSays G n m mode l (record { old = old; new = new; sink = o }) a) (same_load s.left load load' (has t) has') q
+        at : s.tells → (load' : Workload) → HasWorkload s.left load' → RunSays G (choice_of n m mode optimistic) load' (record { old = old; new = new; sink = o }) a
+        at t load' has' = subst (λ (l : Workload). RunSays G (choice_of n m mode optimistic) l (record { old = old; new = new; sink = o }) a) (same_load s.left load load' (has t) has') q

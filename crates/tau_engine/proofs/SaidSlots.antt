@@ -13,7 +13,7 @@ use Rattle.tau_commands.specs.declared.status.Status.TheVariants as status
 use Rattle.tau_commands.specs.Checkpoints.{HasEnded, HasReadAll, IsUsed}
 use Rattle.tau_engine.specs.Commands.{Of}
 use Rattle.tau_commands.specs.Outside.{Input, Output, ends_recovery, is_behind_reading}
-use Rattle.tau_engine.specs.Served.{only_reads, reads_source, streams_of, tells_before, uses_slots, writes_at_end}
+use Rattle.tau_engine.specs.Kinds.{only_reads, reads_source, streams_of, tells_before, uses_slots, writes_at_end}
 use Rattle.tau_engine.specs.Top.{Says, Uses, finds_log}
 use Rattle.tau_engine.proofs.Said.{no_before, refuses_none, some_command}
 use Rattle.tau_commands.proofs.Ends.{no_source, other}

@@ -4,7 +4,7 @@ use Rattle.std.specs.Prelude.{◌&&◌, nat_le, nat_lt, if◌then◌else◌, cod
 use Rattle.std.specs.Str.Parse.{digits_value}
 use Rattle.std.proofs.lemmas.Bool.Decides.{nat_tests}
 use Rattle.std.proofs.lemmas.Bool.{and_parts}
-use Rattle.tau_base.specs.declared.limits.TheConstants.{MAX_CALLS}
+use Rattle.tau_base.specs.declared.limits.TheConstants.{MAX_CALLS, MAX_RECOVERY_WORKERS, MAX_STREAMS, MAX_WORKERS}
 use Rattle.tau_base.specs.Modes.{format_of, most_streams}
 use Rattle.tau_disk.specs.declared.call.Tear.{Tear}
 use Rattle.tau_words.specs.declared.command.Command.{Command}
@@ -12,7 +12,20 @@ use Rattle.tau_words.specs.declared.command.Command.TheVariants.{Run, Recover, D
 use Rattle.tau_words.specs.declared.command.Ending.{Ending}
 use Rattle.tau_words.specs.declared.command.Ending.TheVariants.{Stop, Fail}
 use Rattle.tau_words.specs.Words.{Word, same_word, is_number, bounded, number_in, count_of, streams_of, workers_of, run_count_of, call_of, run_with, mode_by, wide_in, run_as, run_by, run_of_counts, run_of, recover_of, checkpoint_of, restore_of, follow_of, inspect_of, audit_of, tear_of, ending_of, drill_of, bench_of, command_on_streams, command_of}
-use Rattle.tau_engine.specs.Served.{IsWithin, is_ending}
+use Rattle.tau_engine.specs.declared.limits.TheConstants.{MAX_COUNT}
+use Rattle.tau_engine.specs.Drill.{is_ending}
+
+-- the bounds of the numbers that a command names
+abbrev pub IsWithin : Command → Type 0
+IsWithin (Run n m mode optimistic) = ((1 ≤ n) × (n ≤ most_streams (format_of mode))) × (1 ≤ m) × (m ≤ most_streams (format_of mode))
+IsWithin (Recover n p) = ((1 ≤ n) × (n ≤ MAX_STREAMS)) × (1 ≤ p) × (p ≤ MAX_RECOVERY_WORKERS)
+IsWithin (Drill n m p ending) = ((1 ≤ n) × (n ≤ MAX_COUNT)) × ((1 ≤ m) × (m ≤ MAX_COUNT)) × (is_ending n ending ≡ true)
+IsWithin (Bench start calls n m) = ((start ≤ 999) × (calls ≤ MAX_CALLS)) × ((1 ≤ n) × (n ≤ MAX_COUNT)) × (1 ≤ m) × (m ≤ MAX_COUNT)
+IsWithin (Checkpoint n p) = ((1 ≤ n) × (n ≤ MAX_STREAMS)) × (1 ≤ p) × (p ≤ MAX_RECOVERY_WORKERS)
+IsWithin (Restore n p) = ((1 ≤ n) × (n ≤ MAX_STREAMS)) × (1 ≤ p) × (p ≤ MAX_RECOVERY_WORKERS)
+IsWithin (Follow n) = (1 ≤ n) × (n ≤ MAX_STREAMS)
+IsWithin (Inspect n) = (1 ≤ n) × (n ≤ MAX_STREAMS)
+IsWithin (Audit n m) = ((1 ≤ n) × (n ≤ MAX_STREAMS)) × (1 ≤ m) × (m ≤ MAX_WORKERS)
 
 -- ---- steps that may give nothing
 

@@ -17,6 +17,7 @@ use Rattle.tau_disk.specs.Memory.{seen_by}
 use Rattle.tau_stream.specs.declared.writer.Writer.{Writer}
 use Rattle.tau_stream.specs.Writer.{disk_of}
 use Rattle.tau_model.specs.Tables.{IsTablesOf}
+use Rattle.tau_occ.specs.declared.style.Style.TheVariants.{Locking}
 use Rattle.tau_text.specs.declared.load.Workload.{Workload}
 use Rattle.tau_gen.specs.Generated.{generated}
 use Rattle.tau_gen.specs.Sums.{rows_of}
@@ -81,7 +82,7 @@ pub record PlaysWell {D : Type 0} {G : Ghosts D} (m : ℕ) (load : Workload) (ws
   pub after : List (Writer D G)
   pub back : now ≡ map disk_of after ++ rest
   pub end : RunEnd
-  pub ran : GaveNew (ran_by load.turns (length ws) m load) m Values load ws after hears held held' rose (Ok end)
+  pub ran : GaveNew (ran_by load.turns Locking (length ws) m load) m Values load ws after hears held held' rose (Ok end)
   pub heard : end.sink_failed ≡ false
   pub whole : end.disk ≡ None
   pub rows_are : end.report.tables ≡ rows

@@ -1,6 +1,5 @@
 -- What is said of each command alone.
 use Rattle.std.specs.Prelude.{ℕ, ◌<◌, ◌≤◌, ◌≡◌, ◌⊎◌, Bool, true, false, List, length, map, slice_index, Option, None, Some, Ok}
-use Rattle.tau_base.specs.declared.value.LogMode.{LogMode}
 use Rattle.tau_base.specs.Modes.{format_of}
 use Rattle.tau_disk.specs.declared.disk.Disk.{Ghosts}
 use Rattle.tau_disk.specs.Disk.{Rose}
@@ -29,6 +28,8 @@ use Rattle.tau_engine.specs.Opening.{EmptyAreUnborn, opening_calls}
 use Rattle.tau_commands.specs.Outside.{Input, Output, HasWorkload, FailsTold, is_before_disks}
 use Rattle.tau_commands.specs.Recovery.{IsUnfit, EndsAsBad, EndsTangled, images_of, OfRecover}
 use Rattle.tau_engine.specs.RunSays.{IsRunRefused, RunSays}
+use Rattle.tau_engine.specs.Runs.{choice_of}
+use Rattle.tau_engine.specs.declared.run.Choice.{Choice}
 use Rattle.tau_commands.specs.Inspecting.{OfInspect}
 use Rattle.tau_commands.specs.Auditing.{OfAudit}
 use Rattle.tau_commands.specs.Following.{OfFollow}
@@ -42,25 +43,25 @@ module _ (o : Output) (answer : Status) where
 
 module _ {D : Type 0} (G : Ghosts D) (M : Ghosts MemDisk) (s : Input) (o : Output) (old new : List D) (answer : Status) where
   -- A run goes on from what its disks hold: it ended before they were written, or it is one run on that.
-  pub record OfRun (n m : ℕ) (mode : LogMode) : Type 0 where
-    pub run : s.tells → (load : Workload) → HasWorkload s.left load → is_before_disks answer ≡ false → RunSays G n m mode load (record { old = old; new = new; sink = o }) answer
+  pub record OfRun (choice : Choice) : Type 0 where
+    pub run : s.tells → (load : Workload) → HasWorkload s.left load → is_before_disks answer ≡ false → RunSays G choice load (record { old = old; new = new; sink = o }) answer
     -- it is refused exactly if its workload can't go on from what the disks hold
-    pub bad_log : (fault : LogFault) → answer ≡ status.BadLog fault → G.tells → (load : Workload) × (s.tells → HasWorkload s.left load) × IsRunRefused (format_of mode) (declarations_text load.declarations) (images_of G.seen old n) fault
-    pub unfit_told : s.tells → G.tells → (load : Workload) (fault : LogFault) → HasWorkload s.left load → is_before_disks answer ≡ false → IsUnfit (format_of mode) (declarations_text load.declarations) (images_of G.seen old n) fault → EndsAsBad fault answer
-    pub stuck_told : s.tells → G.tells → (load : Workload) (log : Log) → HasWorkload s.left load → is_before_disks answer ≡ false → log_of (Some (format_of mode)) (images_of G.seen old n) ≡ Ok log →
-        begins_fault (declarations_text load.declarations) (map length (images_of G.seen old n)) log ≡ None → ((order : List Kept) → IsOrderOf log order → ⊥) → EndsTangled log answer
+    pub bad_log : (fault : LogFault) → answer ≡ status.BadLog fault → G.tells → (load : Workload) × (s.tells → HasWorkload s.left load) × IsRunRefused (format_of choice.mode) (declarations_text load.declarations) (images_of G.seen old choice.streams) fault
+    pub unfit_told : s.tells → G.tells → (load : Workload) (fault : LogFault) → HasWorkload s.left load → is_before_disks answer ≡ false → IsUnfit (format_of choice.mode) (declarations_text load.declarations) (images_of G.seen old choice.streams) fault → EndsAsBad fault answer
+    pub stuck_told : s.tells → G.tells → (load : Workload) (log : Log) → HasWorkload s.left load → is_before_disks answer ≡ false → log_of (Some (format_of choice.mode)) (images_of G.seen old choice.streams) ≡ Ok log →
+        begins_fault (declarations_text load.declarations) (map length (images_of G.seen old choice.streams)) log ≡ None → ((order : List Kept) → IsOrderOf log order → ⊥) → EndsTangled log answer
     -- a refusal has at most read and synced the disks, each by just these calls: a disk that fails while it is read comes before a bad log
-    pub refused : (fault : LogFault) → answer ≡ status.BadLog fault → EachUsed (OnlySynced G) old new n
-    pub refused_calls : (fault : LogFault) → answer ≡ status.BadLog fault → EachIn (λ j. j < n) (λ j. AllCalls G.tells G.number G.fails G.short (calls_before_writes (slice_index (map length (images_of G.seen old n)) j))) old new
+    pub refused : (fault : LogFault) → answer ≡ status.BadLog fault → EachUsed (OnlySynced G) old new choice.streams
+    pub refused_calls : (fault : LogFault) → answer ≡ status.BadLog fault → EachIn (λ j. j < choice.streams) (λ j. AllCalls G.tells G.number G.fails G.short (calls_before_writes (slice_index (map length (images_of G.seen old choice.streams)) j))) old new
     -- a disk that fails while its stream is opened is told by the one line; one that fails later is told by the report
-    pub opening_fault : (j : ℕ) → answer ≡ status.DiskFault j → G.tells → FailsTold (opening_calls (map length (images_of G.seen old n)) j) (Made G.number G.short old new j) (OneLine o answer)
+    pub opening_fault : (j : ℕ) → answer ≡ status.DiskFault j → G.tells → FailsTold (opening_calls (map length (images_of G.seen old choice.streams)) j) (Made G.number G.short old new j) (OneLine o answer)
     -- a disk that fails while the streams are opened comes before a sink that fails
-    pub write_fault_late : answer ≡ status.WriteFault → EachIn (λ j. j < n) (λ j. NextClean G.tells G.number G.fails (opening_calls (map length (images_of G.seen old n)) j)) old new
+    pub write_fault_late : answer ≡ status.WriteFault → EachIn (λ j. j < choice.streams) (λ j. NextClean G.tells G.number G.fails (opening_calls (map length (images_of G.seen old choice.streams)) j)) old new
     -- so an image that a stop now may leave is one that a stop since the entry might have left
-    pub moments : EmptyAreUnborn G old n → EachUsed (NotEarlier G.tells G.moment) old new n
+    pub moments : EmptyAreUnborn G old choice.streams → EachUsed (NotEarlier G.tells G.moment) old new choice.streams
     -- where nothing is amiss, the work is done
-    pub done : s.tells → G.tells → (load : Workload) (log : Log) (order : List Kept) → HasWorkload s.left load → log_of (Some (format_of mode)) (images_of G.seen old n) ≡ Ok log → IsOrderOf log order →
-        begins_fault (declarations_text load.declarations) (map length (images_of G.seen old n)) log ≡ None → (s.rose → ⊥) → NoneRose G o old new answer n → EndsWell answer
+    pub done : s.tells → G.tells → (load : Workload) (log : Log) (order : List Kept) → HasWorkload s.left load → log_of (Some (format_of choice.mode)) (images_of G.seen old choice.streams) ≡ Ok log → IsOrderOf log order →
+        begins_fault (declarations_text load.declarations) (map length (images_of G.seen old choice.streams)) log ≡ None → (s.rose → ⊥) → NoneRose G o old new answer choice.streams → EndsWell answer
 
   -- A drill tells of the run by turns on disks of its own that fail exactly as it says, and of what recovery finds on them.
   pub record OfDrill (n m : ℕ) (ending : Ending) : Type 0 where
@@ -70,7 +71,7 @@ module _ {D : Type 0} (G : Ghosts D) (M : Ghosts MemDisk) (s : Input) (o : Outpu
   -- a case each
   abbrev pub Of : Option Command → Type 0
   Of None = Unit {0}
-  Of (Some (Run n m mode optimistic)) = OfRun n m mode
+  Of (Some (Run n m mode optimistic)) = OfRun (choice_of n m mode optimistic)
   Of (Some (Recover n p)) = OfRecover G o old new answer n
   Of (Some (Drill n m p ending)) = OfDrill n m ending
   Of (Some (Bench start calls n m)) = OfBench o answer start calls

@@ -1,5 +1,5 @@
 -- A rehearsed crash: how the disks of a drill fail, what its run leaves on them, and what it tells.
-use Rattle.std.specs.Prelude.{ℕ, ◌+◌, ◌-◌, ◌<◌, ◌==◌, ◌≡◌, ◌&&◌, min, Bool, true, false, Option, Some, None, List, [], ◌∷◌, ◌++◌, codes, length, map, take, slice_get, Ok}
+use Rattle.std.specs.Prelude.{ℕ, ◌+◌, ◌-◌, ◌<◌, ◌==◌, ◌≡◌, ◌&&◌, nat_le, nat_lt, min, Bool, true, false, Option, Some, None, List, [], ◌∷◌, ◌++◌, codes, length, map, take, slice_get, Ok}
 use Rattle.std.proofs.Common.{inl, inr}
 use Rattle.std.specs.List.{filter, list_any, sum_by}
 use Rattle.std.specs.Fmt.{decimal}
@@ -43,6 +43,11 @@ use Rattle.tau_commands.specs.declared.status.Status.{Status}
 use Rattle.tau_commands.specs.declared.status.Status.TheVariants as status
 use Rattle.tau_scan.specs.declared.log.Log.{Log}
 use Rattle.tau_scan.specs.Reading.{log_of}
+
+-- a drill of n streams may end so: by a call of all disks at which they stop, or by one of one disk that fails
+abbrev pub is_ending : ℕ → Ending → Bool
+is_ending n (Stop after tear) = nat_le 1 after && nat_le after 1000000
+is_ending n (Fail stream call) = nat_lt stream n && nat_le 1 call && nat_le call 1000000
 
 -- ---- the disks
 

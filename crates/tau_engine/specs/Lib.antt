@@ -1,4 +1,4 @@
-pub mod Served
+pub mod Kinds
 pub mod DiskFacts
 pub mod Runs
 pub mod Opening

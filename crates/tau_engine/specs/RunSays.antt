@@ -2,7 +2,6 @@
 -- they held.
 use Rattle.std.specs.Prelude.{ℕ, ◌<◌, ◌≤◌, ◌≡◌, ◌⊎◌, None, Some, Ok, Err, List, [], length, map, drop, slice_index, slice_index_or}
 use Rattle.tau_base.specs.declared.format.Format.{Format}
-use Rattle.tau_base.specs.declared.value.LogMode.{LogMode}
 use Rattle.tau_base.specs.Modes.{format_of}
 use Rattle.tau_block.specs.Image.{HasContent}
 use Rattle.tau_disk.specs.declared.disk.Disk.{Ghosts}
@@ -29,9 +28,10 @@ use Rattle.tau_commands.specs.declared.status.Status.TheVariants as status
 use Rattle.tau_engine.specs.DiskFacts.{DisksWorked, NextClean, Now, ending_of}
 use Rattle.tau_commands.specs.Fault.{fault_text}
 use Rattle.tau_engine.specs.Opening.{opening_calls, HasBarrier, IsUnwritten, SinceBarrier, EmptyAreUnborn}
-use Rattle.tau_commands.specs.Outside.{Output, Wrote}
+use Rattle.tau_commands.specs.Outside.{Wrote}
 use Rattle.tau_commands.specs.Recovery.{images_of}
-use Rattle.tau_engine.specs.Runs.{ran_by}
+use Rattle.tau_engine.specs.Runs.{DisksAndSink, ran_by}
+use Rattle.tau_engine.specs.declared.run.Choice.{Choice}
 
 -- the image of stream j has a content, and the anchors of the run that are read of it stand in their distance, the first
 -- of them from where the stream was opened
@@ -60,12 +60,6 @@ MayEnd (status.DiskFault j) = Unit {0}
 MayEnd (status.BadLog fault) = Unit {0}
 MayEnd _ = ⊥
 
--- The disks of a call and its sink, before it and after it.
-pub record DisksAndSink (D : Type 0) : Type 1 where
-  pub old : List D
-  pub new : List D
-  pub sink : Output
-
 -- what the call knows of a run on streams that held this, of whose disks these are the barriers
 abbrev pub outside_of : {D : Type 0} → Ghosts D → ℕ → Format → DisksAndSink D → Start → (ℕ → ℕ) → Outside
 outside_of G n f w start barrier = record {
@@ -81,9 +75,9 @@ outside_of G n f w start barrier = record {
   fault_line = λ j. fault_text (status.DiskFault j);
 }
 
-module _ {D : Type 0} (G : Ghosts D) (n m : ℕ) (mode : LogMode) (load : Workload) (w : DisksAndSink D) (answer : Status) where
+module _ {D : Type 0} (G : Ghosts D) (choice : Choice) (load : Workload) (w : DisksAndSink D) (answer : Status) where
   abbrev pub images : List (List ℕ)
-  images = images_of G.seen w.old n
+  images = images_of G.seen w.old choice.streams
 
   abbrev pub sizes : List ℕ
   sizes = map length images
@@ -102,14 +96,14 @@ module _ {D : Type 0} (G : Ghosts D) (n m : ℕ) (mode : LogMode) (load : Worklo
   -- once all were read it is what they held. At a bad log all were read.
   pub record OnlyOpened : Type 0 where
     pub ends : EndsUnwritten answer
-    pub only : EachUsed (OnlySynced G) w.old w.new n
+    pub only : EachUsed (OnlySynced G) w.old w.new choice.streams
     pub barrier : ℕ → ℕ
-    pub barred : EachIn (λ j. j < n) (λ j d e. G.tells → HasBarrier G d e → IsUnwritten G (barrier j) d e) w.old w.new
-    pub read : (fault : LogFault) → answer ≡ status.BadLog fault → EachIn (λ j. j < n) (λ j d e. G.tells → IsUnwritten G (barrier j) d e) w.old w.new
+    pub barred : EachIn (λ j. j < choice.streams) (λ j d e. G.tells → HasBarrier G d e → IsUnwritten G (barrier j) d e) w.old w.new
+    pub read : (fault : LogFault) → answer ≡ status.BadLog fault → EachIn (λ j. j < choice.streams) (λ j d e. G.tells → IsUnwritten G (barrier j) d e) w.old w.new
 
   -- no call that opens a stream was to fail
   abbrev pub OpenedClean : Type 0
-  OpenedClean = EachIn (λ j. j < n) (λ j. NextClean G.tells G.number G.fails (opening_calls sizes j)) w.old w.new
+  OpenedClean = EachIn (λ j. j < choice.streams) (λ j. NextClean G.tells G.number G.fails (opening_calls sizes j)) w.old w.new
 
   -- the disk failed once all was read, by a call that starts its stream, and one line was written
   abbrev pub FailsStarting : ℕ → Type 0
@@ -120,28 +114,28 @@ module _ {D : Type 0} (G : Ghosts D) (n m : ℕ) (mode : LogMode) (load : Worklo
     pub ends : EndsRun answer
     -- what the disks held, on which such a run may begin
     pub start : Start
-    pub begins : IsStart (format_of mode) n load start
-    pub contents : G.tells → contents_of (format_of mode) images ≡ Ok start.old
+    pub begins : IsStart (format_of choice.mode) choice.streams load start
+    pub contents : G.tells → contents_of (format_of choice.mode) images ≡ Ok start.old
     pub fits : G.tells → begins_fault (declarations_text load.declarations) sizes start.log ≡ None
     -- the barrier of each disk
     pub barrier : ℕ → ℕ
-    pub barriers : EmptyAreUnborn G w.old n → EachIn (λ j. j < n) (λ j d e. G.tells → IsBarrier G (barrier j) d e) w.old w.new
-    pub facts : RunFacts (ran_by load.turns n m load) n m mode load (outside_of G n (format_of mode) w start barrier) (ending_of answer)
+    pub barriers : EmptyAreUnborn G w.old choice.streams → EachIn (λ j. j < choice.streams) (λ j d e. G.tells → IsBarrier G (barrier j) d e) w.old w.new
+    pub facts : RunFacts (ran_by load.turns choice.style choice.streams choice.workers load) choice.streams choice.workers choice.mode load (outside_of G choice.streams (format_of choice.mode) w start barrier) (ending_of answer)
     -- a disk that fails while the streams are opened comes before one that fails later
     pub fails : (j : ℕ) → answer ≡ status.DiskFault j → FailsStarting j ⊎ OpenedClean
     -- in threads, if the run went to its end and no disk failed, its anchors stand in their distance, also if the sink failed
-    pub spaced : load.turns ≡ None → DisksWorked n (RoseAt G.faults w.old w.new) answer → (j : ℕ) (x : List ℕ) → j < n → Now G.tells G.may_leave w.old w.new j x → HasSpacedOn (format_of mode) n j load start x
+    pub spaced : load.turns ≡ None → DisksWorked choice.streams (RoseAt G.faults w.old w.new) answer → (j : ℕ) (x : List ℕ) → j < choice.streams → Now G.tells G.may_leave w.old w.new j x → HasSpacedOn (format_of choice.mode) choice.streams j load start x
 
   pub record RunSays : Type 0 where
     pub tells : OnlyOpened ⊎ HasRun
     pub kind : MayEnd answer
-    pub disk : (j : ℕ) → answer ≡ status.DiskFault j → (j < n) × RoseAt G.faults w.old w.new j
+    pub disk : (j : ℕ) → answer ≡ status.DiskFault j → (j < choice.streams) × RoseAt G.faults w.old w.new j
     pub stopped : (j : ℕ) → answer ≡ status.DiskFault j → G.tells → IsFirstStopped G.tells G.number G.fails G.short w.old w.new j
-    pub clean : answer ≡ status.Ok → EachUsed (IsClean G.tells G.number G.fails) w.old w.new n
+    pub clean : answer ≡ status.Ok → EachUsed (IsClean G.tells G.number G.fails) w.old w.new choice.streams
     pub sink : answer ≡ status.WriteFault → Rose w.sink.faults w.sink.faults'
     -- a disk that fails while the streams are opened comes before a sink that fails
     pub opened : answer ≡ status.WriteFault → OpenedClean
-    pub bad_log : (fault : LogFault) → answer ≡ status.BadLog fault → G.tells → IsRunRefused (format_of mode) (declarations_text load.declarations) images fault
+    pub bad_log : (fault : LogFault) → answer ≡ status.BadLog fault → G.tells → IsRunRefused (format_of choice.mode) (declarations_text load.declarations) images fault
     -- a disk that fails while it is read comes before a bad log
-    pub read_alone : (fault : LogFault) → answer ≡ status.BadLog fault → EachIn (λ j. j < n) (λ j. AllCalls G.tells G.number G.fails G.short (calls_before_writes (slice_index sizes j))) w.old w.new
-    pub rest : drop n w.new ≡ drop n w.old
+    pub read_alone : (fault : LogFault) → answer ≡ status.BadLog fault → EachIn (λ j. j < choice.streams) (λ j. AllCalls G.tells G.number G.fails G.short (calls_before_writes (slice_index sizes j))) w.old w.new
+    pub rest : drop choice.streams w.new ≡ drop choice.streams w.old

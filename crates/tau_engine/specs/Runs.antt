@@ -10,7 +10,8 @@ use Rattle.tau_machine.specs.State.{Core}
 use Rattle.tau_core.specs.declared.opening.Opening.{Opening}
 use Rattle.tau_core.specs.declared.state.Load.{Load}
 use Rattle.tau_run.specs.Gives.{GaveFrom}
-use Rattle.tau_occ.specs.declared.style.Style.TheVariants.{Locking}
+use Rattle.tau_occ.specs.declared.style.Style.{Style}
+use Rattle.tau_occ.specs.declared.style.Style.TheVariants.{Locking, Optimistic}
 use Rattle.tau_run.specs.RunFacts.{by_turns}
 use Rattle.tau_run.specs.Turns.{Progress}
 use Rattle.tau_crew_facts.specs.Threads.{in_threads}
@@ -20,12 +21,28 @@ use Rattle.tau_report.specs.declared.report.RunEnd.{RunEnd}
 use Rattle.tau_report.specs.Report.{rest_text}
 use Rattle.tau_commands.specs.declared.status.Status.{Status}
 use Rattle.tau_commands.specs.declared.status.Status.TheVariants as status
-use Rattle.tau_commands.specs.Outside.{Wrote}
+use Rattle.tau_commands.specs.Outside.{Output, Wrote}
+use Rattle.tau_engine.specs.declared.run.Choice.{Choice}
+
+-- how the workers of a run go about their locks, with the word `optimistic` and without it
+abbrev pub style_of : Bool → Style
+style_of true = Optimistic
+style_of false = Locking
+
+-- what the words of a run choose
+abbrev pub choice_of : ℕ → ℕ → LogMode → Bool → Choice
+choice_of n m mode optimistic = record { streams = n; workers = m; mode = mode; style = style_of optimistic }
 
 -- How the events of a run are chosen: by turns if the workload has them, also none, else in threads.
-abbrev pub ran_by : Option (List Turn) → ℕ → ℕ → Workload → Bool → Load → Core → Progress → Type 0
-ran_by None n m load = in_threads Locking
-ran_by (Some turns) n m load = by_turns Locking n m load
+abbrev pub ran_by : Option (List Turn) → Style → ℕ → ℕ → Workload → Bool → Load → Core → Progress → Type 0
+ran_by None style n m load = in_threads style
+ran_by (Some turns) style n m load = by_turns style n m load
+
+-- The disks of a call and its sink, before it and after it.
+pub record DisksAndSink (D : Type 0) : Type 1 where
+  pub old : List D
+  pub new : List D
+  pub sink : Output
 
 -- What was told after the acknowledgements of a run that went to its end, by the answer: the rest of the report, a
 -- first part of it where the sink failed, and nothing where it had failed before.
@@ -44,14 +61,14 @@ TellsRun tables (Err e) hears held held' rose answer = (answer ≡ status.NoMemo
 
 -- The run on these writers from a given opening, on streams that had these bytes: their disks stand in front of the others,
 -- and what it told is after what the sink held.
-pub record RunsFrom {D : Type 0} {G : Ghosts D} (m : ℕ) (mode : LogMode) (load : Workload) (o : Opening) (bases : ℕ → List ℕ) (ws : List (Writer D G)) (rest now : List D) (hears : Type 0) (held held' : List ℕ) (faults faults' : ℕ) (answer : Status) : Type 0 where
+pub record RunsFrom {D : Type 0} {G : Ghosts D} (choice : Choice) (load : Workload) (o : Opening) (bases : ℕ → List ℕ) (ws : List (Writer D G)) (w : DisksAndSink D) (answer : Status) : Type 0 where
   pub after : List (Writer D G)
-  pub back : now ≡ map disk_of after ++ rest
+  pub back : w.new ≡ map disk_of after ++ w.old
   -- what the sink held after the run, and how often it had failed
   pub mid : List ℕ
   pub count : ℕ
-  pub early : faults ≤ count
-  pub late : count ≤ faults'
+  pub early : w.sink.faults ≤ count
+  pub late : count ≤ w.sink.faults'
   pub end : Result RunEnd NoMemory
-  pub ran : GaveFrom (ran_by load.turns (length o.ends) m load) o bases m mode load ws after hears held mid (Rose faults count) end
-  pub told : TellsRun load.declarations.tables end hears mid held' (Rose count faults') answer
+  pub ran : GaveFrom (ran_by load.turns choice.style (length o.ends) choice.workers load) o bases choice.workers choice.mode load ws after w.sink.hears w.sink.held mid (Rose w.sink.faults count) end
+  pub told : TellsRun load.declarations.tables end w.sink.hears mid w.sink.held' (Rose count w.sink.faults') answer

@@ -16,7 +16,7 @@ use Rattle.tau_commands.specs.declared.status.Status.{Status}
 use Rattle.tau_commands.specs.declared.status.Status.TheVariants as status
 use Rattle.tau_commands.specs.Fault.{fault_text, is_refusal}
 use Rattle.tau_commands.specs.Outside.{Input, Output, Wrote, is_behind_text, is_behind_end, is_behind_reading, is_before_disks}
-use Rattle.tau_engine.specs.Served.{streams_of, uses_slots, reads_source, writes_at_end, only_reads, tells_before}
+use Rattle.tau_engine.specs.Kinds.{streams_of, uses_slots, reads_source, writes_at_end, only_reads, tells_before}
 use Rattle.tau_commands.specs.Sources.{HasSource, RefusesSource, is_of_source}
 use Rattle.tau_engine.specs.Commands.{Of}
 

@@ -7,6 +7,7 @@ ghost use Rattle.tau_base.specs.Modes.{most_streams};
 ghost use Rattle.tau_disk.specs.Disk.{Rose};
 ghost use Rattle.tau_disk.specs.Memory.{seen_by};
 ghost use Rattle.tau_disk.specs.Used.{AreEmpty};
+ghost use Rattle.tau_occ.specs.declared.style.Style.TheVariants.{Locking};
 ghost use Rattle.tau_text.specs.Canonical.{declarations_text};
 ghost use Rattle.tau_text.specs.Kept.{AreCalls};
 ghost use Rattle.tau_scan.specs.declared.log.Log.{Log};
@@ -19,7 +20,7 @@ ghost use Rattle.tau_run.specs.Start.{catalogue_of};
 ghost use Rattle.tau_run.specs.CoreRun.{IsSoundLoad};
 ghost use Rattle.tau_run.specs.Writers.{AreNew};
 ghost use Rattle.tau_engine.specs.Bench.{AreFound, BenchTells, IsMeasured, PlaysWell, bench_text, count_lines, digest_lines, digest_of, lines_in, measured_text, number_in, number_line, sum_of};
-ghost use Rattle.tau_engine.specs.declared.served.TheConstants.{MAX_COUNT};
+ghost use Rattle.tau_engine.specs.declared.limits.TheConstants.{MAX_COUNT};
 ghost use Rattle.tau_engine.specs.Drill.{AreNewDisks};
 ghost use Rattle.tau_engine.specs.DiskFacts.{AreUnborn};
 ghost use Rattle.tau_commands.specs.Outside.{Wrote, ends_rehearsal};
@@ -95,7 +96,7 @@ fn run_writers<R: Threads + Wait + Sync, D: Disk + Send, K: Sink + Send, G: Gate
     requires calls { AreCalls load.now.declarations.procs load.now.calls }
     requires text { length (declarations_text load.now.declarations) ≤ MAX_CATALOGUE }
     requires fresh { AreNew One (λ j. catalogue_of load.now) writers.old.items }
-    ensures ran { GaveNew (ran_by load.now.turns (length writers.old.items) workers load.now) workers Values load.now writers.old.items writers.new.items K.tells (K.held sink.old) (K.held sink.new) (Rose (K.faults sink.old) (K.faults sink.new)) result }
+    ensures ran { GaveNew (ran_by load.now.turns Locking (length writers.old.items) workers load.now) workers Values load.now writers.old.items writers.new.items K.tells (K.held sink.old) (K.held sink.new) (Rose (K.faults sink.old) (K.faults sink.new)) result }
     ensures faults { K.faults sink.old ≤ K.faults sink.new }
     ensures count { length writers.new.items ≡ length writers.old.items }
 {

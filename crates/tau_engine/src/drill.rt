@@ -21,12 +21,11 @@ ghost use Rattle.tau_run.specs.Start.{catalogue_of};
 ghost use Rattle.tau_run.specs.CoreRun.{IsSoundLoad};
 ghost use Rattle.tau_run.specs.RunFacts.{WroteFront};
 ghost use Rattle.tau_run.specs.Writers.{AreNew};
-ghost use Rattle.tau_engine.specs.declared.served.TheConstants.{MAX_COUNT};
-ghost use Rattle.tau_engine.specs.Drill.{AreNewDisks, DrillTells, FailsOnce, IsDrill, IsFound, IsNew, IsPlay, PlaysOn, StopsAt, calls_of, images_by, is_of, stopped_line, with_turns};
+ghost use Rattle.tau_engine.specs.declared.limits.TheConstants.{MAX_COUNT};
+ghost use Rattle.tau_engine.specs.Drill.{AreNewDisks, DrillTells, FailsOnce, IsDrill, IsFound, IsNew, IsPlay, PlaysOn, StopsAt, calls_of, images_by, is_ending, is_of, stopped_line, with_turns};
 ghost use Rattle.tau_engine.specs.DiskFacts.{AreUnborn};
 ghost use Rattle.tau_commands.specs.Fault.{fault_text, is_refusal};
 ghost use Rattle.tau_commands.specs.Outside.{HasFault, HasWorkload, Wrote, ends_drill, ends_rehearsal, is_behind_end, is_behind_text};
-ghost use Rattle.tau_engine.specs.Served.{is_ending};
 
 use std::alloc::{AllocError, Global};
 use std::sync::Wait;

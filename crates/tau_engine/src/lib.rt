@@ -3,8 +3,8 @@
 
 mod bench;
 mod drill;
+mod limits;
 mod run;
-mod served;
 mod top;
 
 pub use tau_commands::{

@@ -9,7 +9,7 @@ ghost use Rattle.tau_core.specs.Opens.{Fits};
 ghost use Rattle.tau_run.specs.Gives.{GaveFrom};
 ghost use Rattle.tau_run.specs.Writers.{IsBegun};
 ghost use Rattle.tau_engine.specs.RunSays.{RunSays};
-ghost use Rattle.tau_engine.specs.Runs.{RunsFrom, TellsEnd, ran_by};
+ghost use Rattle.tau_engine.specs.Runs.{RunsFrom, TellsEnd, choice_of, ran_by};
 
 use std::alloc::Global;
 use std::sync::Wait;
@@ -48,12 +48,41 @@ fn tell_end<K: Sink>(alloc: Global, load: &Workload, end: &RunEnd, sink: &mut K)
     }
 }
 
-/// What a run begins on: where its core opens, the writers of its streams, how many workers it has, and how it logs.
+/// What is chosen for a run.
+#[derive(Clone, Copy, Debug)]
+pub struct Choice {
+    /// Streams, 1 to 16; 1 to 32 of a wide mode.
+    pub streams: u8,
+    /// Workers, 1 to 32.
+    pub workers: u8,
+    /// What records hold, and in which format.
+    pub mode: LogMode,
+    /// How workers go about their locks.
+    pub style: Style,
+}
+
+/// What the words of a run choose: its streams, its workers, its mode, and whether they have the word `optimistic`.
+pub fn choice_of(streams: u8, workers: u8, mode: LogMode, optimistic: bool) -> Choice
+    ensures { result ≡ choice_of streams workers mode optimistic }
+{
+    let style = if optimistic {
+        Style::Optimistic
+    } else {
+        Style::Locking
+    };
+    Choice {
+        streams,
+        workers,
+        mode,
+        style,
+    }
+}
+
+/// What a run begins on: where its core opens, the writers of its streams, and what was chosen for it.
 struct Ready<D: Disk> {
     opening: Opening,
     writers: Vec<Writer<D>>,
-    workers: u8,
-    mode: LogMode,
+    choice: Choice,
 }
 
 /// Runs a workload on what is ready: by turns if it has them, else in threads. Returns how it ended and the writers.
@@ -65,22 +94,21 @@ fn run_from<R: Threads + Wait + Sync, D: Disk + Send, K: Sink + Send, G: Gate + 
     sink: &mut K,
     gate: &G,
 ) -> (Result<RunEnd, NoMemory>, Vec<Writer<D>>)
-    requires low { 1 ≤ ready.workers }
-    requires high { ready.workers ≤ MAX_WORKERS }
+    requires low { 1 ≤ ready.choice.workers }
+    requires high { ready.choice.workers ≤ MAX_WORKERS }
     requires calls { AreCalls load.now.declarations.procs load.now.calls }
-    requires streams { length ready.opening.ends ≤ most_streams (format_of ready.mode) }
+    requires streams { length ready.opening.ends ≤ most_streams (format_of ready.choice.mode) }
     requires fits { Fits ready.opening }
-    requires begun { (bases : ℕ → List ℕ) × IsBegun (format_of ready.mode) bases ready.writers.items ready.opening }
-    ensures ran { (bases : ℕ → List ℕ) → IsBegun (format_of ready.mode) bases ready.writers.items ready.opening →
-        GaveFrom (ran_by load.now.turns (length ready.opening.ends) ready.workers load.now) ready.opening bases ready.workers ready.mode load.now ready.writers.items result.1.items K.tells (K.held sink.old) (K.held sink.new) (Rose (K.faults sink.old) (K.faults sink.new)) result.0 }
+    requires begun { (bases : ℕ → List ℕ) × IsBegun (format_of ready.choice.mode) bases ready.writers.items ready.opening }
+    ensures ran { (bases : ℕ → List ℕ) → IsBegun (format_of ready.choice.mode) bases ready.writers.items ready.opening →
+        GaveFrom (ran_by load.now.turns ready.choice.style (length ready.opening.ends) ready.choice.workers load.now) ready.opening bases ready.choice.workers ready.choice.mode load.now ready.writers.items result.1.items K.tells (K.held sink.old) (K.held sink.new) (Rose (K.faults sink.old) (K.faults sink.new)) result.0 }
     ensures faults { K.faults sink.old ≤ K.faults sink.new }
     ensures count { length result.1.items ≡ length ready.writers.items }
 {
     let Ready {
         opening,
         mut writers,
-        workers,
-        mode,
+        choice,
     } = ready;
     match load.turns {
         Some(_) => {
@@ -88,11 +116,11 @@ fn run_from<R: Threads + Wait + Sync, D: Disk + Send, K: Sink + Send, G: Gate + 
                 alloc,
                 load,
                 opening,
-                workers,
-                mode,
+                choice.workers,
+                choice.mode,
                 &mut writers,
                 sink,
-                Style::Locking,
+                choice.style,
             );
             (end, writers)
         }
@@ -102,12 +130,12 @@ fn run_from<R: Threads + Wait + Sync, D: Disk + Send, K: Sink + Send, G: Gate + 
                 alloc,
                 load,
                 opening,
-                workers,
-                mode,
+                choice.workers,
+                choice.mode,
                 &mut writers,
                 sink,
                 gate,
-                Style::Locking,
+                choice.style,
             );
             (end, writers)
         }
@@ -124,15 +152,15 @@ fn run_on<R: Threads + Wait + Sync, D: Disk + Send, K: Sink + Send, G: Gate + Sy
     disks: &mut Vec<D>,
     gate: &G,
 ) -> Status
-    requires low { 1 ≤ ready.workers }
-    requires high { ready.workers ≤ MAX_WORKERS }
+    requires low { 1 ≤ ready.choice.workers }
+    requires high { ready.choice.workers ≤ MAX_WORKERS }
     requires runnable { IsRunnable load.now }
-    requires streams { length ready.opening.ends ≤ most_streams (format_of ready.mode) }
+    requires streams { length ready.opening.ends ≤ most_streams (format_of ready.choice.mode) }
     requires fits { Fits ready.opening }
-    requires begun { (bases : ℕ → List ℕ) × IsBegun (format_of ready.mode) bases ready.writers.items ready.opening }
+    requires begun { (bases : ℕ → List ℕ) × IsBegun (format_of ready.choice.mode) bases ready.writers.items ready.opening }
     requires room { vec_len disks.old + vec_len ready.writers ≤ vec_capacity disks.old }
-    ensures ran { (bases : ℕ → List ℕ) → IsBegun (format_of ready.mode) bases ready.writers.items ready.opening →
-        RunsFrom ready.workers ready.mode load.now ready.opening bases ready.writers.items disks.old.items disks.new.items K.tells (K.held sink.old) (K.held sink.new) (K.faults sink.old) (K.faults sink.new) result }
+    ensures ran { (bases : ℕ → List ℕ) → IsBegun (format_of ready.choice.mode) bases ready.writers.items ready.opening →
+        RunsFrom ready.choice load.now ready.opening bases ready.writers.items (record { old = disks.old.items; new = disks.new.items; sink = record { hears = K.tells; held = K.held sink.old; held' = K.held sink.new; faults = K.faults sink.old; faults' = K.faults sink.new } }) result }
     ensures len { vec_len disks.new ≡ vec_len ready.writers + vec_len disks.old }
 {
     let (end, writers) = run_from(rt, alloc, load, ready, sink, gate);
@@ -141,17 +169,6 @@ fn run_on<R: Threads + Wait + Sync, D: Disk + Send, K: Sink + Send, G: Gate + Sy
         Ok(end) => tell_end(alloc, load, &end, sink),
         Err(NoMemory) => Status::NoMemory,
     }
-}
-
-/// What is chosen for a run.
-#[derive(Clone, Copy, Debug)]
-pub struct Choice {
-    /// Streams, 1 to 16; 1 to 32 of a wide mode.
-    pub streams: u8,
-    /// Workers, 1 to 32.
-    pub workers: u8,
-    /// What records hold, and in which format.
-    pub mode: LogMode,
 }
 
 /// Runs a workload on what the first disks hold, one for each stream, and puts them back in their places.
@@ -173,7 +190,7 @@ pub fn run<R: Threads + Wait + Sync, D: Disk + Send, K: Sink + Send, G: Gate + S
     requires meant { (text : List ℕ) × (workload_of text ≡ Ok load.now) }
 
     ensures count { vec_len disks.new ≡ vec_len disks.old }
-    ensures says { RunSays ⟦<D as Disk>⟧ choice.streams choice.workers choice.mode load.now (record { old = disks.old.items; new = disks.new.items; sink = record { hears = K.tells; held = K.held sink.old; held' = K.held sink.new; faults = K.faults sink.old; faults' = K.faults sink.new } }) result }
+    ensures says { RunSays ⟦<D as Disk>⟧ choice load.now (record { old = disks.old.items; new = disks.new.items; sink = record { hears = K.tells; held = K.held sink.old; held' = K.held sink.new; faults = K.faults sink.old; faults' = K.faults sink.new } }) result }
 {
     let Ok(text) = print_declarations(alloc, &load.declarations) else {
         return Status::NoMemory;
@@ -184,8 +201,7 @@ pub fn run<R: Threads + Wait + Sync, D: Disk + Send, K: Sink + Send, G: Gate + S
             let ready = Ready {
                 opening,
                 writers,
-                workers: choice.workers,
-                mode: choice.mode,
+                choice,
             };
             run_on(rt, alloc, load, ready, sink, disks, gate)
         }

@@ -1,13 +1,12 @@
 //! The top call.
 ghost use Rattle.std.specs.Prelude.{◌≡◌, map, string_bytes, vec_len};
 ghost use Rattle.tau_disk.specs.Disk.{Rose};
-ghost use Rattle.tau_engine.specs.Served.{served};
+ghost use Rattle.tau_words.specs.Words.{command_of};
 ghost use Rattle.tau_engine.specs.Top.{Says};
 
 use crate::bench::{Job, bench};
 use crate::drill::drill_source;
-use crate::run::{Choice, run};
-use crate::served::{Work, read_served};
+use crate::run::{choice_of, run};
 use std::alloc::Global;
 use std::sync::Wait;
 use std::thread::Threads;
@@ -15,7 +14,7 @@ use tau_commands::{
     DISKS, Status, audit, checkpoint, follow, inspect, read_source, recover, refuse, restore,
 };
 use tau_disk::{Disk, Gate, MemDisk, Sink, Source};
-use tau_words::WordsRefusal;
+use tau_words::{Command, WordsRefusal, read_words};
 
 /// Does what the words say, and returns how it ended. The words are those after the program's name. A run uses the
 /// first disks, and goes on from what they hold; all disks stand in their places again, whatever the answer.
@@ -33,21 +32,21 @@ pub fn taurus<R: Threads + Wait + Sync, S: Source, K: Sink + Send, D: Disk + Sen
     // The disks stand in their places again.
     ensures count { vec_len disks.new ≡ DISKS }
     ensures says { Says ⟦<D as Disk>⟧ ⟦<MemDisk as Disk>⟧ (record { tells = S.tells; left = S.left source.old; left' = S.left source.new; rose = Rose (S.faults source.old) (S.faults source.new) })
-        (record { hears = K.tells; held = K.held sink.old; held' = K.held sink.new; faults = K.faults sink.old; faults' = K.faults sink.new }) disks.old.items disks.new.items (served (map string_bytes words.now)) result }
+        (record { hears = K.tells; held = K.held sink.old; held' = K.held sink.new; faults = K.faults sink.old; faults' = K.faults sink.new }) disks.old.items disks.new.items (command_of (map string_bytes words.now)) result }
 {
-    match read_served(alloc, words) {
+    match read_words(alloc, words) {
         Err(WordsRefusal::NoMemory) => Status::NoMemory,
         Err(WordsRefusal::Usage) => refuse(alloc, sink, Status::Usage),
-        Ok(Work::Recover { n, p }) => recover(rt, alloc, usize::from(n), p, sink, disks, gate),
-        Ok(Work::Drill { n, m, p: _, ending }) => drill_source(
+        Ok(Command::Recover { n, p }) => recover(rt, alloc, usize::from(n), p, sink, disks, gate),
+        Ok(Command::Drill { n, m, p: _, ending }) => drill_source(
             rt, alloc, n, m, ending, source, sink, gate,
         ),
-        Ok(Work::Checkpoint { n, p }) => checkpoint(rt, alloc, n, p, sink, disks, gate),
-        Ok(Work::Restore { n, p }) => restore(rt, alloc, n, p, sink, disks, gate),
-        Ok(Work::Inspect { n }) => inspect(alloc, usize::from(n), sink, disks),
-        Ok(Work::Audit { n, m }) => audit(alloc, n, m, source, sink, disks),
-        Ok(Work::Follow { n }) => follow(alloc, n, source, sink),
-        Ok(Work::Bench { start, calls, n, m }) => {
+        Ok(Command::Checkpoint { n, p }) => checkpoint(rt, alloc, n, p, sink, disks, gate),
+        Ok(Command::Restore { n, p }) => restore(rt, alloc, n, p, sink, disks, gate),
+        Ok(Command::Inspect { n }) => inspect(alloc, usize::from(n), sink, disks),
+        Ok(Command::Audit { n, m }) => audit(alloc, n, m, source, sink, disks),
+        Ok(Command::Follow { n }) => follow(alloc, n, source, sink),
+        Ok(Command::Bench { start, calls, n, m }) => {
             let job = Job {
                 start,
                 calls,
@@ -56,14 +55,17 @@ pub fn taurus<R: Threads + Wait + Sync, S: Source, K: Sink + Send, D: Disk + Sen
             };
             bench(rt, alloc, job, sink, gate)
         }
-        Ok(Work::Run { n, m, mode }) => match read_source(alloc, source) {
+        Ok(
+            Command::Run {
+                n,
+                m,
+                mode,
+                optimistic,
+            },
+        ) => match read_source(alloc, source) {
             Err(refusal) => refuse(alloc, sink, refusal),
             Ok(load) => {
-                let choice = Choice {
-                    streams: n,
-                    workers: m,
-                    mode,
-                };
+                let choice = choice_of(n, m, mode, optimistic);
                 run(rt, alloc, &load, choice, sink, disks, gate)
             }
         },

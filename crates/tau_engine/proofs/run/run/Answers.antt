@@ -40,7 +40,7 @@ returns-clause-says g c =
     let is : c.deref.result.now ≡ declarations_text c.args.load.now.declarations = c.deref.ensures.value ∙ c.in-Ok.ensures in
     let run = subst (λ (f : Format). IsOpenRun g.D.Disk f c.args.choice.streams (declarations_text c.args.load.now.declarations) c.args.disks.now.items c.open_run.new.disks.items c.in-Ok-open_run.opening c.in-Ok-open_run.writers.items) c.format_of.ensures
     (subst (λ (text : List ℕ). IsOpenRun g.D.Disk c.format_of.result c.args.choice.streams text c.args.disks.now.items c.open_run.new.disks.items c.in-Ok-open_run.opening c.in-Ok-open_run.writers.items) is c.in-Ok-open_run.ensures.opened) in
-    says_run {D = g.row.D.Denot} {G = g.D.Disk} (g.met.D.Disk g.world.𝓛 g.world.𝓜 g.world.𝓡 ((λ s x. x), (λ x. x), (λ x. x), λ x. x)).only_now c.args.choice.streams c.args.choice.workers c.args.choice.mode c.args.load.now c.requires.streams_low c.requires.streams_high c.requires.low
+    says_run {D = g.row.D.Denot} {G = g.D.Disk} (g.met.D.Disk g.world.𝓛 g.world.𝓜 g.world.𝓡 ((λ s x. x), (λ x. x), (λ x. x), λ x. x)).only_now c.args.choice c.args.load.now c.requires.streams_low c.requires.streams_high c.requires.low
     (sound_of c.requires.meant.0 c.args.load.now c.requires.meant.1 c.requires.runnable) c.args.disks.now.items c.open_run.new.disks.items (search rules) c.in-Ok-open_run.opening c.in-Ok-open_run.writers.items run
     (record { hears = g.K.Sink.tells; held = g.K.Sink.held c.args.sink.now; held' = g.K.Sink.held c.run_on.new.sink; faults = g.K.Sink.faults c.args.sink.now; faults' = g.K.Sink.faults c.run_on.new.sink }) c.run_on.new.disks.items c.run_on.result
     (c.run_on.ensures.ran (opened_at c.args.load.now (on.start g.D.Disk (format_of c.args.choice.mode) c.args.choice.streams c.args.load.now c.args.disks.now.items (search rules) run.sizes run.starts run.begun))
@@ -51,7 +51,7 @@ returns-in-Err-clause-says g c =
     let is : c.deref.result.now ≡ declarations_text c.args.load.now.declarations = c.deref.ensures.value ∙ c.in-Ok.ensures in
     let refused = subst (λ (f : Format). RefusesRun g.D.Disk f c.args.choice.streams (declarations_text c.args.load.now.declarations) c.args.disks.now.items c.open_run.new.disks.items c.in-Err.refusal) c.format_of.ensures
     (subst (λ (text : List ℕ). RefusesRun g.D.Disk c.format_of.result c.args.choice.streams text c.args.disks.now.items c.open_run.new.disks.items c.in-Err.refusal) is c.in-Err.ensures.refused) in
-    says_refused g.D.Disk (g.met.D.Disk g.world.𝓛 g.world.𝓜 g.world.𝓡 ((λ s x. x), (λ x. x), (λ x. x), λ x. x)).only_now c.args.choice.streams c.args.choice.workers c.args.choice.mode c.args.load.now c.requires.streams_low c.requires.streams_high c.requires.low
+    says_refused g.D.Disk (g.met.D.Disk g.world.𝓛 g.world.𝓜 g.world.𝓡 ((λ s x. x), (λ x. x), (λ x. x), λ x. x)).only_now c.args.choice c.args.load.now c.requires.streams_low c.requires.streams_high c.requires.low
     (sound_of c.requires.meant.0 c.args.load.now c.requires.meant.1 c.requires.runnable) c.args.disks.now.items c.open_run.new.disks.items (search rules) c.in-Err.ensures.rest
     (record { hears = g.K.Sink.tells; held = g.K.Sink.held c.args.sink.now; held' = g.K.Sink.held c.refuse_scan.new.sink; faults = g.K.Sink.faults c.args.sink.now; faults' = g.K.Sink.faults c.refuse_scan.new.sink })
     c.in-Err.refusal refused c.refuse_scan.result
@@ -59,5 +59,5 @@ returns-in-Err-clause-says g c =
 
 pub returns-in_default-clause-says : goal.returns-in_default-clause-says
 returns-in_default-clause-says g c =
-    untouched g.D.Disk (g.met.D.Disk g.world.𝓛 g.world.𝓜 g.world.𝓡 ((λ s x. x), (λ x. x), (λ x. x), λ x. x)).only_now c.args.choice.streams c.args.choice.workers c.args.choice.mode c.args.load.now c.args.disks.now.items
+    untouched g.D.Disk (g.met.D.Disk g.world.𝓛 g.world.𝓜 g.world.𝓡 ((λ s x. x), (λ x. x), (λ x. x), λ x. x)).only_now c.args.choice c.args.load.now c.args.disks.now.items
     (record { hears = g.K.Sink.tells; held = g.K.Sink.held c.args.sink.now; held' = g.K.Sink.held c.args.sink.now; faults = g.K.Sink.faults c.args.sink.now; faults' = g.K.Sink.faults c.args.sink.now }) status.NoMemory refl (λ e t. search rules)

@@ -14,7 +14,7 @@ returns-in-Ok-clause-ran g c bases begun = record {
   early = c.run_from-end.ensures.faults;
   late = c.tell_end.ensures.faults;
   end = Ok c.in-Ok.end;
-  ran = subst (λ e. GaveFrom (ran_by c.args.load.now.turns (length c.args.ready.opening.ends) c.args.ready.workers c.args.load.now) c.args.ready.opening bases c.args.ready.workers c.args.ready.mode c.args.load.now c.args.ready.writers.items c.run_from-end.result.1.items g.K.Sink.tells (g.K.Sink.held c.args.sink.now) (g.K.Sink.held c.run_from-end.new.sink)
+  ran = subst (λ e. GaveFrom (ran_by c.args.load.now.turns c.args.ready.choice.style (length c.args.ready.opening.ends) c.args.ready.choice.workers c.args.load.now) c.args.ready.opening bases c.args.ready.choice.workers c.args.ready.choice.mode c.args.load.now c.args.ready.writers.items c.run_from-end.result.1.items g.K.Sink.tells (g.K.Sink.held c.args.sink.now) (g.K.Sink.held c.run_from-end.new.sink)
       (Rose (g.K.Sink.faults c.args.sink.now) (g.K.Sink.faults c.run_from-end.new.sink)) e) c.in-Ok.is (c.run_from-end.ensures.ran bases begun);
   told = c.tell_end.ensures.told;
 }
@@ -28,7 +28,7 @@ returns-in-Err-clause-ran g c bases begun = record {
   early = c.run_from-end.ensures.faults;
   late = search rules;
   end = Err c.in-Err.field-0;
-  ran = subst (λ e. GaveFrom (ran_by c.args.load.now.turns (length c.args.ready.opening.ends) c.args.ready.workers c.args.load.now) c.args.ready.opening bases c.args.ready.workers c.args.ready.mode c.args.load.now c.args.ready.writers.items c.run_from-end.result.1.items g.K.Sink.tells (g.K.Sink.held c.args.sink.now) (g.K.Sink.held c.run_from-end.new.sink)
+  ran = subst (λ e. GaveFrom (ran_by c.args.load.now.turns c.args.ready.choice.style (length c.args.ready.opening.ends) c.args.ready.choice.workers c.args.load.now) c.args.ready.opening bases c.args.ready.choice.workers c.args.ready.choice.mode c.args.load.now c.args.ready.writers.items c.run_from-end.result.1.items g.K.Sink.tells (g.K.Sink.held c.args.sink.now) (g.K.Sink.held c.run_from-end.new.sink)
       (Rose (g.K.Sink.faults c.args.sink.now) (g.K.Sink.faults c.run_from-end.new.sink)) e) c.in-Err.is (c.run_from-end.ensures.ran bases begun);
   told = (refl, refl);
 }
