@@ -9,6 +9,7 @@ pub mod RanTo
 pub mod Ran
 pub mod RunClauses
 pub mod Within
+mod Committed
 pub mod Tops
 pub mod Said
 mod Playing

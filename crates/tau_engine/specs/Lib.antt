@@ -6,5 +6,6 @@ pub mod RunSays
 pub mod Played
 pub mod Drill
 pub mod Bench
+pub mod Committed
 pub mod Commands
 pub mod Top
