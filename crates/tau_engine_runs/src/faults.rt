@@ -24,6 +24,9 @@ fn words_of_no_command(rt: HostRuntime) -> Result<(), Fail> {
         "run +2 1",
         "run 2 1 values",
         "run 2 1 data data",
+        "run 2 2 wide optimistic",
+        "run 2 2 optimistic data",
+        "run 2 2 optimistic optimistic",
         "recover 33 1",
         "recover 1 17",
         "recover 1 0",
@@ -44,6 +47,9 @@ fn words_of_runs(rt: HostRuntime) -> Result<(), Fail> {
         "run 1 16",
         "run 16 16 data",
         "run 3 5 command",
+        "run 1 1 optimistic",
+        "run 16 16 data optimistic",
+        "run 32 32 command optimistic wide",
     ];
     for line in lines {
         tells_anew(&rt, rt.alloc(), line, "", 0, "end 0\n")?;

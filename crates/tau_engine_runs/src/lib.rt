@@ -4,6 +4,8 @@
 #[cfg(test)]
 mod faults;
 #[cfg(test)]
+mod optimistic;
+#[cfg(test)]
 mod reopened;
 #[cfg(test)]
 mod runs;

@@ -38,10 +38,11 @@ fn one_worker_in_threads(rt: HostRuntime) -> Result<(), Fail> {
 fn put_independently<R: Threads + Wait + Sync + Abort>(
     rt: &R,
     alloc: Global,
+    line: &str,
 ) -> Result<Vec<MemDisk>, Fail> {
     let mut disks = new_disks(alloc)?;
     let text = b"table a\nput a 1 5\nput a 2 6\n";
-    let got = told(rt, alloc, "run 2 2", text, 0, &mut disks)?;
+    let got = told(rt, alloc, line, text, 0, &mut disks)?;
     let first =
         b"ack 1 53,0\nack 2 0,53\nreply 1 none\nreply 2 none\norder 1\norder 2\nrow a 1 int 5\nrow a 2 int 6\nend 0\n";
     let second =
@@ -69,9 +70,18 @@ fn cut(alloc: Global, disks: &[MemDisk]) -> Result<Vec<MemDisk>, Fail> {
 #[test]
 fn independent_puts(rt: HostRuntime) -> Result<(), Fail> {
     let alloc = rt.alloc();
-    let mut disks = put_independently(&rt, alloc)?;
-    holds(&disks, 0, PUTS[0])?;
-    holds(&disks, 1, PUTS[1])?;
+    for line in ["run 2 2", "run 2 2 optimistic"] {
+        let disks = put_independently(&rt, alloc, line)?;
+        holds(&disks, 0, PUTS[0])?;
+        holds(&disks, 1, PUTS[1])?;
+    }
+    Ok(())
+}
+
+#[test]
+fn independent_puts_are_recovered(rt: HostRuntime) -> Result<(), Fail> {
+    let alloc = rt.alloc();
+    let mut disks = put_independently(&rt, alloc, "run 2 2")?;
     let both = "elv 53,53\ntaken 0 13 1\ntaken 1 13 2\nrow a 1 int 5\nrow a 2 int 6\nend 0\n";
     tells(&rt, alloc, "recover 2 2", "", 0, both, &mut disks)?;
     // Stream 0 without its call.
