@@ -61,12 +61,7 @@ fn hot_by_turns(alloc: Global) -> Result<String, Fail> {
 }
 
 // A call tells the sum of all additions and ends well, and so many of its lines begin with each of these words.
-fn tells_sum(
-    rt: &impl Abort,
-    got: &[u8],
-    line: &str,
-    counts: &[(&str, u64)],
-) -> Result<(), Fail> {
+fn tells_sum(rt: &impl Abort, got: &[u8], line: &str, counts: &[(&str, u64)]) -> Result<(), Fail> {
     assert!(rt; has_line(got, b"row a 1 int 1598\n"), "{line}");
     assert!(rt; has_line(got, b"end 0\n"), "{line}");
     for (word, count) in counts {
