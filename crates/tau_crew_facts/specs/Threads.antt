@@ -23,7 +23,8 @@ KeepsApart false l p = Unit {0}
 abbrev pub in_threads : Style → Bool → Load → Core → Progress → Type 0
 in_threads style whole l opening p = LeadHeld (setting_of l) style p.events opening p.state p.joined × KeepsApart whole l p
 
--- And each position that a manager stored was durable by then, and stays so: at every moment since some moment the disk of its stream holds at least so much.
+-- And each position that a manager stored was just what was durable of its stream at some moment: whatever stops might have left of its
+-- disk since then holds at least so much, and some image no more.
 abbrev pub lasting : {D : Type 0} {G : Ghosts D} → Style → List (Writer D G) → Bool → Load → Core → Progress → Type 0
 lasting {D} {G} style ws' whole l opening p = in_threads style whole l opening p × AreLasting l p.events ws'
 
