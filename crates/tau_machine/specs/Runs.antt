@@ -43,7 +43,3 @@ LeadOn set (e ∷ es) s s' new = (m : Core) × (first rest : List (Act Txn)) × 
 pub record Run (set : Setting) (opening : Core) (events : List Event) (K : List (Act Txn)) (s : Core) : Type 0 where
   pub opens : IsOpening set opening
   pub leads : LeadOn set events opening s K
-
--- some list of events leads from this opening to s
-abbrev pub Reached : Setting → Core → Core → Type 0
-Reached set opening s = (events : List Event) × (K : List (Act Txn)) × Run set opening events K s

@@ -3,7 +3,6 @@ use Rattle.std.specs.Prelude.{◌≡◌, ◌≢◌, ◌⊎◌, ℕ, zero, suc, �
 use Rattle.std.specs.Global.{Global}
 use mathlib.Core.Option.{some, none}
 use lib.ListN.{get_elem?}
-use Rattle.std.specs.declared.snapshot.Snapshot.{Snapshot}
 use Rattle.atomic_table.specs.Table.{State, Me, Step}
 use Rattle.tau_pool.specs.declared.item.Job.{Job}
 use Rattle.tau_scan.specs.declared.log.Log.{Log}
@@ -151,9 +150,6 @@ Sat = Me Slot View
 -- the seat has nothing, and a hand
 abbrev pub IsIdle : Sat → Type 0
 IsIdle m = (m.1 ≡ []) × (m.0.held ≡ None) × (0 < length m.0.hands)
-
-abbrev pub log_of : Snapshot Log → Log
-log_of k = k.value
 
 -- the part that the seat has now is a recovery of the log, and of the seat's hands it has in flight what the view names
 pub record Took (m m' : Sat) : Type 0 where

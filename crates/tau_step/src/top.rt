@@ -30,7 +30,7 @@ use tau_text::Workload;
 
 /// Runs a workload by turns, with so many workers, on streams that were just created for it. Each turn word is done in order, then rounds follow until no
 /// worker has anything to do; then the calls left over run alone, each manager flushes what is left, and the clerk makes a last pass.
-/// Lines of acknowledgements go to the sink as they come.
+/// Lines of acknowledgements go to the sink as they come. The workers are in the style Locking.
 pub fn run_turns<D: Disk, K: Sink>(
     alloc: Global,
     load: &Workload,
@@ -56,7 +56,7 @@ pub fn run_turns<D: Disk, K: Sink>(
     go(alloc, core, load, m, writers, sink, Style::Locking)
 }
 
-/// The same from a given state, on streams that end where it says.
+/// The same from a given state, on streams that end where it says, with workers in a given style. The calls left over run in the style Locking.
 pub fn run_turns_from<D: Disk, K: Sink>(
     alloc: Global,
     load: &Workload,
