@@ -6,7 +6,7 @@ use Rattle.tau_base.specs.declared.format.Format.{Format}
 use Rattle.tau_block.specs.Image.{HasContent}
 use Rattle.tau_disk.specs.declared.disk.Disk.{Ghosts}
 use Rattle.tau_disk.specs.Disk.{Passes}
-use Rattle.tau_disk.specs.Passing.{passes_none, passes_on, barrier}
+use Rattle.tau_disk.proofs.Passing.{passes_none, passes_on, barrier}
 use Rattle.tau_stream.specs.Stream.{IsOldOrNew, IsUnborn}
 use Rattle.tau_begin.specs.Opened.{IsTouched}
 use Rattle.tau_begin.specs.Barrier.{IsBarrier, OpeningHasBarrier}

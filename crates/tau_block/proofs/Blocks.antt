@@ -2,7 +2,7 @@
 use Rattle.std.proofs.Common.{◌≡◌, ◌≢◌, ◌⊎◌, inl, inr, ℕ, zero, suc, ◌+◌, ◌<◌, ◌≤◌, ◌^◌, Bool, true, false, List, [], ◌∷◌, ◌++◌, length, get_or, take, drop, refl, sym, ◌∙◌, ap, subst, arith, append_assoc, length-append, Option, Some, None, Ok, if◌then◌else◌}
 use Rattle.std.specs.Prelude.{nat_eq, slice_set}
 use Rattle.std.specs.List.{starts_with}
-use Rattle.std.specs.Int.{w32, from_be_bytes}
+use Rattle.std.specs.Int.{w32, from_be_bytes, to_be_bytes}
 use Rattle.std.proofs.lemmas.Nat.{from_be_bytes-to_be_bytes_2, from_be_bytes-to_be_bytes_4}
 use Rattle.std.proofs.lemmas.List.{take_at, drop_at, drop_all, get_or_at, length-take-le, append-nil, get_or_append_left, take-append-le}
 use Rattle.std.proofs.Math.Seq.{set-append_seam}
@@ -13,8 +13,12 @@ use Rattle.tau_base.specs.declared.format.Format.TheVariants.{One, Two}
 use Rattle.tau_base.specs.Modes.{most_streams}
 use Rattle.tau_block.specs.declared.fault.ImageFault.{ImageFault}
 use Rattle.tau_block.specs.declared.fault.ImageFault.TheVariants.{BadMagic, BadCount, BadIndex}
-use Rattle.tau_block.specs.Image.{magic, header_of, format_in, count_in, index_in, header_fault, extended, bodies, with_count, behind_header, image_of, bytes_of, content_of, block_of, tail_of, IsFront, IsLog, IsHeader}
+use Rattle.tau_block.specs.Image.{magic, header_of, format_in, count_in, index_in, header_fault, extended, bodies, with_count, behind_header, image_of, bytes_of, content_of, tail_of, IsFront, IsLog, IsHeader}
 use Rattle.tau_base.proofs.Lists.{split_at}
+
+-- a block with its open gate, and what of it stands after the gate, with the next gate closed
+abbrev pub block_of : List ℕ → List ℕ
+block_of body = 1 ∷ (to_be_bytes w32 (length body) ++ body)
 
 pub extended_extended : (a b : List ℕ) (o : Option (List ℕ)) → extended a (extended b o) ≡ extended (a ++ b) o
 extended_extended a b None = refl

@@ -1,10 +1,10 @@
 -- From gate to gate over an image.
-use Rattle.std.proofs.Common.{◌≡◌, ◌≢◌, ℕ, ◌+◌, ◌<◌, List, [], ◌∷◌, ◌++◌, length, get_or, take, drop, refl, sym, ◌∙◌, ap, subst, arith, append_assoc, length-append, take-append-drop, Option, Some, None, Ok}
+use Rattle.std.proofs.Common.{◌≡◌, ◌≢◌, ℕ, ◌+◌, ◌<◌, List, ◌∷◌, ◌++◌, length, get_or, take, drop, refl, sym, ◌∙◌, ap, subst, arith, append_assoc, length-append, take-append-drop, Option, Some, None, Ok}
 use Rattle.std.specs.Int.{w32, to_be_bytes}
 use Rattle.std.proofs.lemmas.List.{take_at, drop_more, drop-drop, length-take-le, append-nil}
 use Rattle.tau_base.specs.declared.format.Format.{Format}
-use Rattle.tau_block.specs.Image.{extended, bodies, block_of, IsFront, IsLog, IsHeader, IsBlockAt, IsWalked, header_fault, format_in, count_in, image_of, with_count}
-use Rattle.tau_block.proofs.Blocks.{extended_extended, bodies_block, bodies_shut, front_block, headed}
+use Rattle.tau_block.specs.Image.{extended, bodies, IsFront, IsLog, IsHeader, IsBlockAt, IsWalked, header_fault, format_in, count_in, image_of, with_count}
+use Rattle.tau_block.proofs.Blocks.{block_of, extended_extended, bodies_block, bodies_shut, front_block, headed}
 
 module _ (image : List ℕ) (gate_at : ℕ) (content : List ℕ) (is : IsWalked image gate_at content) where
   gate : (value : ℕ) → get_or image gate_at 0 ≡ value → drop gate_at image ≡ value ∷ drop (gate_at + 1) image

@@ -114,10 +114,6 @@ IfBorn (Some f) (Some n) P = P f n
 IfBorn (Some f) None P = Unit {0}
 IfBorn None count P = Unit {0}
 
--- a block with its open gate, and what of it stands after the gate, with the next gate closed
-abbrev pub block_of : List ℕ → List ℕ
-block_of body = 1 ∷ (to_be_bytes w32 (length body) ++ body)
-
 abbrev pub tail_of : List ℕ → List ℕ
 tail_of body = to_be_bytes w32 (length body) ++ body ++ 0 ∷ []
 

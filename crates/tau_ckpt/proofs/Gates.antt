@@ -4,7 +4,7 @@ use Rattle.std.specs.Prelude.{◌≢◌, false, true}
 use Rattle.std.proofs.lemmas.List.{get_or-take}
 use Rattle.tau_disk.specs.declared.disk.Disk.{Ghosts}
 use Rattle.tau_disk.specs.Disk.{Holds as Written, Only, Passes, Torn}
-use Rattle.tau_disk.specs.Passing.{passes_on, passes_weaker}
+use Rattle.tau_disk.proofs.Passing.{passes_on, passes_weaker}
 use Rattle.tau_disk.specs.Used.{OnlyRead}
 use Rattle.tau_ckpt.specs.Slot.{Holds, HoldsNone, body_text}
 use Rattle.tau_ckpt.specs.Writing.{EmptyIsUnborn, GateIs, HoldsNoMore, HoldsOldOrNew, IsClosed, IsQuiet, IsSpelled}

@@ -7,7 +7,7 @@ use Rattle.tau_base.proofs.Logic.{some_is, up_to_or_above}
 use Rattle.tau_base.specs.declared.limits.TheConstants.{MAX_STREAMS}
 use Rattle.tau_disk.specs.declared.disk.Disk.{Ghosts}
 use Rattle.tau_disk.specs.Disk.{Only, Passes, Rose}
-use Rattle.tau_disk.specs.Passing.{barrier}
+use Rattle.tau_disk.proofs.Passing.{barrier}
 use Rattle.tau_disk.specs.Stages.{OnlySynced}
 use Rattle.tau_disk.specs.Used.{AllCalls, Each, EachIn, IsClean, IsFirstStopped, IsStopped, OfDisk, RoseAt}
 use Rattle.tau_begin.specs.Barrier.{IsBarrier}

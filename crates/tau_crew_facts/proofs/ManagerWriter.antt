@@ -7,7 +7,7 @@ use Rattle.tau_base.specs.declared.format.Format.{Format}
 use Rattle.tau_block.specs.Image.{HasContent, IsLog, content_of}
 use Rattle.tau_disk.specs.Disk.{Passes, Rose}
 use Rattle.tau_disk.specs.Used.{GoesOn, IsStopped}
-use Rattle.tau_disk.specs.Passing.{passes_none, passes_weaker, passes_on, left_by}
+use Rattle.tau_disk.proofs.Passing.{passes_none, passes_weaker, passes_on, left_by}
 use Rattle.tau_disk.specs.declared.disk.Disk.{Ghosts}
 use Rattle.tau_outbox.specs.declared.Piece.{Piece}
 use Rattle.tau_outbox.specs.Pieces.{bytes_of}

@@ -5,7 +5,7 @@ use Rattle.std.proofs.lemmas.Bool.{cases_Bool}
 use Rattle.std.proofs.lemmas.Bool.Decides.{nat_tests}
 use Rattle.tau_disk.specs.declared.disk.Disk.{Ghosts}
 use Rattle.tau_disk.specs.Disk.{Rose, Elapses, WasToFail, WasRefused}
-use Rattle.tau_disk.specs.Passing.{passes_none, passes_call}
+use Rattle.tau_disk.proofs.Passing.{passes_none, passes_call}
 use Rattle.tau_disk.specs.Plan.{MadeSome}
 use Rattle.tau_disk.specs.Used.{OnlyRead, IsClean, IsStopped, AllCalls, GoesOn}
 use Rattle.tau_disk.specs.Stages.{Went, Broke}

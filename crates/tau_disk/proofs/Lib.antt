@@ -1,3 +1,4 @@
+pub mod Passing
 pub mod Tears
 mod Left
 mod LeftIn

@@ -4,7 +4,7 @@ use Rattle.std.specs.Prelude.{Result, Ok, Err, OnOk}
 use Rattle.tau_disk.specs.declared.disk.Disk.{Ghosts}
 use Rattle.tau_disk.specs.declared.disk.Failed.{Failed}
 use Rattle.tau_disk.specs.Disk.{Rose, Passes, Elapses, HasCause}
-use Rattle.tau_disk.specs.Passing.{passes_none, passes_call, passes_on}
+use Rattle.tau_disk.proofs.Passing.{passes_none, passes_call, passes_on}
 use Rattle.tau_disk.specs.Stages.{Broke, OnlySynced}
 use Rattle.tau_disk.specs.Used.{OnlyRead}
 

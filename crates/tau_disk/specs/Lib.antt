@@ -1,7 +1,6 @@
 pub mod Disk
 pub mod Left
 pub mod Memory
-pub mod Passing
 pub mod Plan
 pub mod Replay
 pub mod Streams

@@ -8,7 +8,7 @@ use Rattle.tau_base.proofs.Logic.{some_is, below_or_not}
 use Rattle.tau_block.specs.Image.{HasContent}
 use Rattle.tau_disk.specs.declared.disk.Disk.{Ghosts}
 use Rattle.tau_disk.specs.Disk.{Rose}
-use Rattle.tau_disk.specs.Passing.{passes_none}
+use Rattle.tau_disk.proofs.Passing.{passes_none}
 use Rattle.tau_disk.specs.Used.{EachIn, RoseAt, Made}
 use Rattle.tau_stream.specs.Stream.{IsOldOrNew, IsUnborn}
 use Rattle.tau_open.specs.declared.start.StreamStart.{StreamStart}

@@ -8,7 +8,7 @@ use Rattle.tau_base.proofs.Lists.{got_within, some_at}
 use Rattle.tau_base.proofs.Logic.{some_is, below_or_not}
 use Rattle.tau_disk.specs.declared.disk.Disk.{Ghosts}
 use Rattle.tau_disk.specs.Disk.{Only, Rose}
-use Rattle.tau_disk.specs.Passing.{passes_none}
+use Rattle.tau_disk.proofs.Passing.{passes_none}
 use Rattle.tau_disk.specs.Plan.{MadeAll, MadeSome}
 use Rattle.tau_disk.specs.Stages.{Went, Broke, OnlySynced}
 use Rattle.tau_disk.specs.Used.{EachIn, EachUsed, OfDisk, RoseAt, IsClean, IsFirstStopped, Made}

@@ -2,11 +2,14 @@
 use Rattle.std.proofs.Common.{ℕ, zero, suc, ◌+◌, ◌≤◌, Bool, true, false, ◌≡◌, ◌⊎◌, inl, inr, List, [], ◌∷◌, ◌++◌, refl, sym, ap, subst, ◌∙◌, arith}
 use Rattle.std.specs.Prelude.{◌==◌}
 use Rattle.std.specs.List.{filter}
-use Rattle.std.proofs.lemmas.List.Elements.{filter-append}
 use Rattle.std.proofs.lemmas.Bool.{cases_Bool, eq-eqb, cases_eq, ne_eqb}
 use Rattle.tau_model.specs.History.{Act, Member, Before, Reordered}
 use Rattle.tau_machine.specs.Hands.{Txn}
-use Rattle.tau_machine.specs.Accounts.{one, in_acts}
+use Rattle.tau_machine.specs.Accounts.{one}
+
+abbrev pub in_acts : ℕ → List (Act Txn) → ℕ
+in_acts n [] = 0
+in_acts n (t ∷ ts) = one n t.call.call.number + in_acts n ts
 
 -- of two elements one stands before the other, or they are equal
 pub either_way : {A : Type 0} (u t : A) (xs : List A) → Member u xs → Member t xs → (u ≡ t) ⊎ (Before u t xs ⊎ Before t u xs)

@@ -33,14 +33,14 @@ use Rattle.tau_model.proofs.Reorder.{reordered_sym, reordered_length}
 use Rattle.tau_model.proofs.ReportOrder.{IsReport, reported_is}
 use Rattle.tau_machine.specs.Hands.{Txn, committed_of, spot_of, Hand, means, lv_of, held_in}
 use Rattle.tau_machine.specs.State.{Setting, Ticket, Item, Record, Anchor, Core, sight, hand_of}
-use Rattle.tau_machine.specs.Accounts.{in_acts, in_committed}
+use Rattle.tau_machine.specs.Accounts.{in_committed}
+use Rattle.tau_machine.proofs.Lists.{in_acts, member_of, before_of, member_counts, before_counts, apart_counts, reordered_counts}
 use Rattle.tau_machine.specs.Invariant.{Invariant}
 use Rattle.tau_machine.specs.Pieces.{records_of_stream, records_in, placed_in}
 use Rattle.tau_machine.specs.Reports.{calls_of, placed_at, reported, held_by, content_of, Unheld}
 use Rattle.tau_machine.specs.Theorems.{KeptTheorem, RunTheorem, GoesOnTheorem, LetGoTheorem, OrderTheorem, RowsTheorem, ReportedTheorem, NumbersTheorem, CutsTheorem, StreamsTheorem, AcknowledgedTheorem, ContentsTheorem, LightTheorem, CommittedTheorem, EndedTheorem, OwnRowTheorem, PostedTheorem}
 use Rattle.tau_machine.proofs.Classes.{classes_map}
 use Rattle.tau_machine.proofs.Join as join
-use Rattle.tau_machine.proofs.Lists.{member_of, before_of, member_counts, before_counts, apart_counts, reordered_counts}
 use Rattle.tau_machine.proofs.Mapped.{reported_map}
 use Rattle.tau_machine.proofs.Pieces.{chain_member}
 use Rattle.tau_machine.proofs.Snoc.{consistent_from}

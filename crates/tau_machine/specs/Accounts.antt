@@ -14,10 +14,6 @@ abbrev pub in_calls : ℕ → List Numbered → ℕ
 in_calls n [] = 0
 in_calls n (c ∷ cs) = one n c.number + in_calls n cs
 
-abbrev pub in_acts : ℕ → List (Act Txn) → ℕ
-in_acts n [] = 0
-in_acts n (t ∷ ts) = one n t.call.call.number + in_acts n ts
-
 abbrev pub in_committed : ℕ → List Committed → ℕ
 in_committed n [] = 0
 in_committed n (c ∷ cs) = one n c.number + in_committed n cs

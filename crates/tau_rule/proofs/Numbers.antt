@@ -7,8 +7,8 @@ use Rattle.tau_base.specs.declared.value.Call.{Call}
 use Rattle.tau_model.specs.History.{Act, Member}
 use Rattle.tau_machine.specs.Hands.{Txn}
 use Rattle.tau_machine.specs.State.{Core}
-use Rattle.tau_machine.specs.Accounts.{one, in_acts}
-use Rattle.tau_machine.proofs.Lists.{apart_counts}
+use Rattle.tau_machine.specs.Accounts.{one}
+use Rattle.tau_machine.proofs.Lists.{in_acts, apart_counts}
 use Rattle.tau_machine.proofs.Results.{committed_theorem}
 use Rattle.tau_occ.specs.declared.style.Style.{Style}
 use Rattle.tau_rule.specs.Rule.{IsReached}

@@ -4,7 +4,7 @@ use Rattle.std.specs.Prelude.{Some, slice_get}
 use Rattle.std.proofs.Math.ListN.{set}
 use Rattle.std.proofs.lemmas.Bool.{cases_eq}
 use Rattle.std.proofs.lemmas.List.{length-append, length-set}
-use Rattle.tau_disk.specs.Passing.{passes_none}
+use Rattle.tau_disk.proofs.Passing.{passes_none}
 use Rattle.tau_disk.specs.Used.{Each}
 use Rattle.tau_scan.specs.Outside.{IsRead}
 use Rattle.tau_base.proofs.Logic.{some_is}

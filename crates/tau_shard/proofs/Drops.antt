@@ -4,24 +4,27 @@ use Rattle.std.specs.Prelude.{Some, None, IsSome, ◌==◌, ◌&&◌}
 use Rattle.std.specs.List.{IsDistinct}
 use Rattle.std.specs.Map.{lookup, keys_of}
 use Rattle.std.specs.Cmp.{IsEquivalence}
-use Rattle.std.proofs.lemmas.Map.Entries.{option_filter}
+use Rattle.std.proofs.lemmas.Map.Entries.{option_filter, lookup-filter-values, lookup_from_place}
 use Rattle.std.proofs.lemmas.Bool.{cases_Bool, eq-eqb}
-use Rattle.std.proofs.lemmas.Map.Entries.{lookup-filter-values, lookup_from_place}
 use Rattle.tau_base.specs.declared.value.Key.{Key}
 use Rattle.tau_base.specs.declared.value.Value.{Value}
 use Rattle.tau_base.specs.declared.value.Mode.TheVariants.{Write}
-use Rattle.tau_base.specs.Vectors.{AtMost, covers}
-use Rattle.tau_base.specs.Vectors.{join}
+use Rattle.tau_base.specs.Vectors.{AtMost, covers, join}
 use Rattle.tau_base.proofs.Vectors.{join_left, join_right, join_below, join_wider, at_most_trans, at_most_itself, covers_at_most, at_most_covers}
 use Rattle.tau_machine.specs.Shard.{Entry, entry_or, Dropped}
 use Rattle.tau_shard.specs.declared.entry.LockEntry.{LockEntry}
 use Rattle.tau_shard.specs.Plain.{PlainShard}
 use Rattle.tau_shard.specs.Read.{is_key, entry_of, entry_option, shard_of}
-use Rattle.tau_shard.specs.Blocks.{covered, swept, IsCovered, Placed}
+use Rattle.tau_shard.specs.Blocks.{covered, swept, Placed}
 use Rattle.tau_shard.proofs.Masks.{nobody, zero_from}
 use Rattle.tau_shard.proofs.Puts.{is_key_itself, is_key_is, is_key_same}
 use Rattle.tau_base.proofs.Keys.{same_key_sym}
 use Rattle.tau_base.proofs.Logic.{and_from}
+use Rattle.tau_machine.specs.Shard as theory
+
+-- nobody holds the key, and v covers both vectors
+abbrev pub IsCovered : List ℕ → theory.Entry → Type 0
+IsCovered v e = ((w : ℕ) → e.holders w ≡ None) × AtMost e.write_lv v × AtMost e.read_lv v
 
 pub key_laws : IsEquivalence is_key
 key_laws = record {

@@ -5,7 +5,7 @@ use Rattle.tau_base.specs.declared.value.Key.{Key}
 use Rattle.tau_base.specs.declared.value.Value.TheVariants.{Absent}
 use Rattle.tau_base.specs.declared.value.Mode.{Mode}
 use Rattle.tau_base.specs.declared.value.Mode.TheVariants.{Read, Write}
-use Rattle.tau_base.specs.Vectors.{AtMost, covers}
+use Rattle.tau_base.specs.Vectors.{covers}
 use Rattle.tau_base.specs.Vectors.{join}
 use Rattle.tau_machine.specs.Shard as theory
 use Rattle.tau_machine.specs.Shard.{entry_in}
@@ -43,10 +43,6 @@ RefusedBy e w m (Busy holder) = IsLowest e w m holder
 abbrev pub dep_locked : Mode → List ℕ → theory.Entry → List ℕ
 dep_locked Read dep e = join dep e.write_lv
 dep_locked Write dep e = join (join dep e.write_lv) e.read_lv
-
--- nobody holds the key, and v covers both vectors
-abbrev pub IsCovered : List ℕ → theory.Entry → Type 0
-IsCovered v e = ((w : ℕ) → e.holders w ≡ None) × AtMost e.write_lv v × AtMost e.read_lv v
 
 -- a key that is held in write mode has its row's place
 abbrev pub Placed : PlainShard → Type 0

@@ -10,7 +10,7 @@ use Rattle.tau_base.specs.Modes.{format_of}
 use Rattle.tau_block.specs.Image.{HasContent}
 use Rattle.tau_disk.specs.Disk.{Passes, Rose}
 use Rattle.tau_disk.specs.Used.{GoesOn, IsStopped}
-use Rattle.tau_disk.specs.Passing.{passes_weaker, passes_none, left_by}
+use Rattle.tau_disk.proofs.Passing.{passes_weaker, passes_none, left_by}
 use Rattle.tau_disk.specs.declared.disk.Disk.{Ghosts}
 use Rattle.tau_stream.specs.declared.writer.Writer.{Writer}
 use Rattle.tau_stream.specs.Stream.{IsOldOrNew, MayHold}

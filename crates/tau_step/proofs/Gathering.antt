@@ -3,7 +3,7 @@ use Rattle.std.proofs.Common.{ℕ, ◌+◌, ◌<◌, ◌≡◌, inl, inr, Bool, 
 use Rattle.std.specs.Prelude.{Some, is_none, ◌&&◌, nat_lt, slice_get, slice_index, Result, Ok, Err}
 use Rattle.tau_base.specs.Modes.{format_of}
 use Rattle.tau_base.specs.declared.value.NoMemory.{NoMemory}
-use Rattle.tau_disk.specs.Passing.{passes_none}
+use Rattle.tau_disk.proofs.Passing.{passes_none}
 use Rattle.std.proofs.lemmas.List.{append-nil}
 use Rattle.std.proofs.lemmas.Bool.{cases_lt}
 use Rattle.tau_base.specs.declared.limits.TheConstants.{MAX_BODY}

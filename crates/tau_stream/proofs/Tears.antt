@@ -6,8 +6,8 @@ use Rattle.std.proofs.lemmas.Bool.{cases_eq}
 use Rattle.tau_base.specs.declared.format.Format.{Format}
 use Rattle.tau_disk.specs.Disk.{Torn, Holds, Only}
 use Rattle.tau_disk.specs.Replay.{over}
-use Rattle.tau_block.specs.Image.{content_of, HasContent, block_of, tail_of, IsBody, IsLog}
-use Rattle.tau_block.proofs.Blocks.{front_block, log_of_front, short_content}
+use Rattle.tau_block.specs.Image.{content_of, HasContent, tail_of, IsBody, IsLog}
+use Rattle.tau_block.proofs.Blocks.{block_of, front_block, log_of_front, short_content}
 use Rattle.tau_stream.specs.Stream.{IsSettled, IsOldOrNew}
 use Rattle.tau_base.proofs.Lists.{split_at}
 

@@ -1,7 +1,7 @@
 use Rattle.std.proofs.Common.{ℕ, ◌+◌, List, ◌++◌, length, get_or, inl, subst, sym, ◌∙◌, arith}
 use Rattle.tau_disk.specs.Disk.{Torn, Holds}
 use Rattle.tau_disk.proofs.Images.{holds_torn}
-use Rattle.tau_disk.specs.Passing.{passes_weaker, passes_on}
+use Rattle.tau_disk.proofs.Passing.{passes_weaker, passes_on}
 use Rattle.tau_stream.specs.Stream.{IsOldOrNew, IsSettled}
 use Rattle.tau_stream.proofs.Left.{durably_last, publish_first, publish_second}
 use Rattle.tau_stream.proofs.Tears.{torn_behind, content_now, staged, torn_gate, opened, settles, holds_long}

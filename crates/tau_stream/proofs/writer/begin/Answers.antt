@@ -1,7 +1,7 @@
 use Rattle.std.proofs.Common.{[], List, ℕ, length, inl, subst, sym, ◌∙◌, ap, arith}
 use Rattle.tau_base.proofs.Logic.{on_err}
 use Rattle.tau_disk.specs.Disk.{Torn}
-use Rattle.tau_disk.specs.Passing.{passes_on, passes_weaker}
+use Rattle.tau_disk.proofs.Passing.{passes_on, passes_weaker}
 use Rattle.tau_block.specs.Image.{IsLog, count_in, format_in, index_in}
 use Rattle.tau_stream.specs.Stream.{IsOldOrNew}
 use Rattle.tau_stream.proofs.Heads.{long_head, log_of_head}
