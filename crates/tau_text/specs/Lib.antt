@@ -7,7 +7,6 @@ pub mod Canonical
 pub mod Text
 pub mod Alone
 pub mod Kept
-pub mod Shapes
 pub mod Causes
 pub mod Puts
 pub mod Places
