@@ -1,8 +1,9 @@
 -- Where a line and a word end.
-use Rattle.std.proofs.Common.{◌≡◌, ◌≢◌, ℕ, zero, suc, ◌+◌, ◌-◌, ◌<◌, ◌≤◌, ◌==◌, Bool, true, false, cond, not, List, [], ◌∷◌, length, take, drop, get_or, length-drop, refl, sym, ap, ◌∙◌, arith}
+use Rattle.std.proofs.Common.{◌≡◌, ◌≢◌, ℕ, zero, suc, ◌+◌, ◌-◌, ◌<◌, ◌≤◌, ◌==◌, Bool, true, false, cond, not, List, [], ◌∷◌, length, take, drop, get_or, length-drop, IsUtf8, refl, sym, ap, ◌∙◌, arith}
 use Rattle.std.proofs.lemmas.Grind.{common_steps}
 use Rattle.std.specs.List.{position_or_len}
 use Rattle.std.proofs.lemmas.List.{take_all}
+use Rattle.std.proofs.lemmas.Str.{IsUtf8-nil, IsUtf8-take, IsUtf8-drop, IsCharBoundary-before_ascii, IsCharBoundary-after_ascii}
 use Rattle.tau_text.specs.Lines.{Between, Plain, Quoted, onto, lines, body, words, words_from}
 
 one_add : (n : ℕ) → 1 + n ≡ suc n
@@ -165,3 +166,29 @@ line_cut bs n e lt =
 
 pub line_body : (bs : List ℕ) (n : ℕ) → n ≡ place 10 bs → n < length bs → body (take (length bs - length (drop (n + 1) bs)) bs) ≡ take n bs
 line_body bs n e lt = rw (behind_line bs n lt, e) (body_cut bs)
+
+-- ---- the byte at which a text is cut
+
+same_byte : (b c : ℕ) → (c == b) ≡ true → c ≡ b
+same_byte b c e = grind (arith, common_steps)
+
+place_step : (v : Bool) (b c p : ℕ) (bs : List ℕ) → (c == b) ≡ v → cond (not v) (1 + p) 0 < suc (length bs) → (p < length bs → get_or bs p 0 ≡ b) → get_or (c ∷ bs) (cond (not v) (1 + p) 0) 0 ≡ b
+place_step true b c p bs e lt h = same_byte b c e
+place_step false b c p bs e lt h =
+    let s : 1 + p ≡ suc p = one_add p in
+    rw s (h (omega arith))
+
+place_is : (b : ℕ) (bs : List ℕ) → place b bs < length bs → get_or bs (place b bs) 0 ≡ b
+place_is b [] lt = absurd (omega arith)
+place_is b (c ∷ bs) lt = place_step (c == b) b c (place b bs) bs refl lt (λ h. place_is b bs h)
+
+-- A line of a text that is UTF-8 is UTF-8, and so is what comes after it.
+pub line_utf8 : (bs : List ℕ) (n : ℕ) → n ≡ place 10 bs → n < length bs → IsUtf8 bs → IsUtf8 (take n bs) × IsUtf8 (drop (n + 1) bs)
+line_utf8 bs n e lt u =
+    let small : get_or bs n 0 < 128 =
+    let here : get_or bs n 0 ≡ 10 = rw e (place_is 10 bs (omega (arith, e))) in
+    omega (arith, here) in
+    (IsUtf8-take bs n u (IsCharBoundary-before_ascii bs n lt small), IsUtf8-drop bs (n + 1) u (IsCharBoundary-after_ascii bs n u lt small))
+
+pub last_utf8 : (bs : List ℕ) → IsUtf8 bs → IsUtf8 bs × IsUtf8 []
+last_utf8 bs u = (u, IsUtf8-nil)

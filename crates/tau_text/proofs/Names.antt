@@ -1,9 +1,11 @@
 -- Names, and where they stand in a list.
-use Rattle.std.proofs.Common.{◌≡◌, ℕ, zero, suc, ◌+◌, ◌-◌, ◌<◌, ◌≤◌, Bool, true, false, List, [], ◌∷◌, length, take, drop, get_or, Some, None, IsUtf8, bytes_eq, refl, arith, add-one, drop-cons}
+use Rattle.std.proofs.Common.{◌≡◌, ℕ, zero, suc, ◌+◌, ◌-◌, ◌<◌, ◌≤◌, Bool, true, false, List, [], ◌∷◌, length, take, drop, get_or, Some, None, IsUtf8, bytes_eq, rules, refl, arith, add-one, drop-cons}
 use Rattle.std.proofs.lemmas.Grind.{common_steps}
 use Rattle.std.proofs.lemmas.Bool.{and_parts}
+use Rattle.std.proofs.lemmas.Slice.Eq.{bytes_eq-Decides}
 use Rattle.std.proofs.lemmas.List.{drop_all}
 use Rattle.std.proofs.lemmas.Str.{IsUtf8-from_ascii, is_utf8-from_IsUtf8, IsUtf8-from_is_utf8}
+use Rattle.std.specs.Bool.{Decides}
 use Rattle.std.specs.List.{list_all}
 use Rattle.std.specs.Str.{is_utf8}
 use Rattle.tau_proc.specs.declared.proc.Proc.{Proc}
@@ -28,6 +30,9 @@ named_small (b ∷ bs) e (suc i) = all_small bs (and_parts (is_letter b) (list_a
 
 pub named_utf8 : (bs : List ℕ) → is_named bs ≡ true → IsUtf8 bs
 named_utf8 bs e = IsUtf8-from_ascii bs (named_small bs e)
+
+pub same_from : (xs ys : List ℕ) (r : Bool) → Decides r (xs ≡ ys) → r ≡ bytes_eq xs ys
+same_from xs ys r h = search (rules, bytes_eq-Decides)
 
 pub place_here : (w n : List ℕ) (i : ℕ) (names : List (List ℕ)) → i < length names → n ≡ get_or names i n → bytes_eq n w ≡ true → place_from i w (drop i names) ≡ Some i
 unfolding place_from

@@ -1,5 +1,5 @@
 //! The lines of a text and the words of a line.
-ghost use Rattle.std.specs.Prelude.{◌≡◌, ◌≢◌, ◌==◌, ◌+◌, ◌≤◌, ◌<◌, ◌-◌, Ok, List, [], ◌∷◌, length, take, drop, slice_index, MatchOption, IfSome};
+ghost use Rattle.std.specs.Prelude.{◌≡◌, ◌≢◌, ◌==◌, ◌+◌, ◌≤◌, ◌<◌, ◌-◌, Ok, List, [], ◌∷◌, length, take, drop, slice_index, MatchOption, IfSome, IsUtf8};
 ghost use Rattle.std.specs.List.{position_or_len};
 ghost use Rattle.tau_text.specs.Lines.{lines, body, words};
 ghost use Rattle.tau_text.specs.Given.{Gives};
@@ -56,6 +56,7 @@ pub fn first_line(text: &[u8]) -> (&[u8], &[u8])
     requires { 0 < length text.now }
     ensures cut { lines text.now ≡ take (length text.now - length result.1.now) text.now ∷ lines result.1.now }
     ensures body { body (take (length text.now - length result.1.now) text.now) ≡ result.0.now }
+    ensures utf8 { IsUtf8 text.now → IsUtf8 result.0.now × IsUtf8 result.1.now }
     ensures shorter { length result.1.now < length text.now }
 {
     let n = place_of(text, b'\n');

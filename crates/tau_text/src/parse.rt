@@ -1,5 +1,6 @@
 //! What a text means. A line changes in place what was read, and on an error may have changed a part of it.
-ghost use Rattle.std.specs.Prelude.{true, false, ◌≡◌, ◌≤◌, ◌<◌, ◌+◌, ◌^◌, Ok, Result, None, Some, length, IfOk, OnOk, IfSome, IsTrue, unwrap_or, is_none, [], ◌∷◌};
+ghost use Rattle.std.specs.Prelude.{true, false, ◌≡◌, ◌≤◌, ◌<◌, ◌+◌, ◌^◌, Ok, Result, None, Some, length, IfOk, OnOk, IfSome, IsTrue, unwrap_or, is_none, [], ◌∷◌, IsUtf8};
+ghost use Rattle.std.specs.Str.{is_utf8};
 ghost use Rattle.tau_proc.specs.Takes.{takes};
 ghost use Rattle.tau_text.specs.Lines.{words, lines};
 ghost use Rattle.tau_text.specs.Given.{Gives};
@@ -329,20 +330,41 @@ fn words_read(
     }
 }
 
-/// One line.
-#[tactic(auto, unfolding(crate::specs::Text::line_read), using(crate::proofs::Texts::utf8_yes, crate::proofs::Texts::utf8_no))]
+/// Whether bytes are UTF-8. A line of a text that is known to be is not looked at again.
+#[inline(always)]
+#[tactic(auto, using(crate::proofs::Texts::utf8_yes, crate::proofs::Texts::utf8_no))]
+fn is_utf8(bytes: &[u8], known: bool) -> bool
+    requires { known ≡ true → IsUtf8 bytes.now }
+    ensures value { result ≡ is_utf8 bytes.now }
+    ensures text { result ≡ true → IsUtf8 bytes.now }
+{
+    if known {
+        return true;
+    }
+    match str::from_utf8(bytes) {
+        Ok(_) => true,
+        Err(_) => false,
+    }
+}
+
+/// One line, and whether it is known to be UTF-8.
+#[tactic(auto, unfolding(crate::specs::Text::line_read))]
 fn line_read(
     alloc: Global,
     s: &mut Reading,
     n: u32,
     line: &[u8],
+    known: bool,
     call: &mut Call,
 ) -> Result<(), LineRefusal>
-    requires { IsWithin s.old }
+    requires within { IsWithin s.old }
+    requires text { known ≡ true → IsUtf8 line.now }
     ensures given { Gives (λ _. s.new) result (line_read s.old n line.now) }
     ensures within { OnOk result (IsWithin s.new) }
 {
-    str::from_utf8(line).map_err(|_| LineRefusal::Cause(TextCause::NotUtf8))?;
+    if !is_utf8(line, known) {
+        return Err(LineRefusal::Cause(TextCause::NotUtf8));
+    }
     words_read(alloc, s, n, line, call)
 }
 
@@ -379,19 +401,20 @@ fn nothing(alloc: Global) -> Reading
     }
 }
 
-/// The lines of a text, one after the other.
+/// The lines of a text, one after the other. The text is UTF-8 as a whole if its lines are, so that one look does for all of them.
 fn lines_read(alloc: Global, text: &[u8]) -> Result<Reading, TextRefusal>
     ensures given { Reads result (lines_read nothing 1 0 (lines text.now)) }
     ensures within { IfOk result IsWithin }
     ensures short { OnOk result (length text.now ≤ MAX_WORKLOAD) }
 {
+    let known = is_utf8(text, false);
     let mut s = nothing(alloc);
     let mut call = blank_call();
     let mut rest = text;
     let mut n: u32 = 1;
     while !rest.is_empty() {
         let (line, after) = first_line(rest);
-        match line_read(alloc, &mut s, n, line, &mut call) {
+        match line_read(alloc, &mut s, n, line, known, &mut call) {
             Ok(()) => {}
             Err(e) => return Err(refusal(n, e)),
         }

@@ -1,5 +1,5 @@
 //! How words are spelled.
-ghost use Rattle.std.specs.Prelude.{true, IfSome, IfOk, OnOk, IsTrue, List, ◌≡◌, ◌≤◌, ◌^◌, ◌-◌, ◌*◌, ◌<◌, ◌&&◌, ℕ, Option, Some, None, ◌+◌, length, option_and_then, option_map, map, take, pos, ◌+ℤ◌, bytes_eq};
+ghost use Rattle.std.specs.Prelude.{true, IfSome, IfOk, OnOk, IsTrue, List, ◌≡◌, ◌↔◌, ◌≤◌, ◌^◌, ◌-◌, ◌*◌, ◌<◌, ◌&&◌, ℕ, Option, Some, None, ◌+◌, length, option_and_then, option_map, map, take, pos, ◌+ℤ◌, bytes_eq};
 ghost use Rattle.std.specs.List.{list_all};
 ghost use Rattle.std.specs.Str.{is_utf8};
 ghost use Rattle.tau_proc.specs.Limits.{is_register, operand_fits};
@@ -135,6 +135,8 @@ fn magnitude(top: u64, word: &[u8]) -> Option<u64>
     }
 }
 
+/// It is inlined, since most words of a call are numbers.
+#[inline(always)]
 #[tactic(auto, unfolding(crate::specs::Spelled::number))]
 fn number(word: &[u8]) -> Option<i64>
     ensures { result ≡ number word.now }
@@ -226,13 +228,37 @@ fn kept_name(word: &[u8]) -> Name
     name
 }
 
+/// Whether two texts are the same.
+#[inline(always)]
+fn same_bytes(name: &[u8], word: &[u8]) -> bool
+    ensures { IsTrue result ↔ (name.now ≡ word.now) }
+{
+    if name.len() != word.len() {
+        return false;
+    }
+    for i in 0..name.len() {
+        if name[i] != word[i] {
+            return false;
+        }
+    }
+    true
+}
+
+/// Whether a name is this word. Names are short, so that their bytes are compared with no call.
+#[inline(always)]
+fn is_same(name: &[u8], word: &[u8]) -> bool
+    ensures { result ≡ bytes_eq name.now word.now }
+{
+    same_bytes(name, word)
+}
+
 /// The number of a name in a list.
 fn place_of_name(names: &[Name], word: &[u8]) -> Option<usize>
     ensures value { result ≡ place_from 0 word.now names.now }
     ensures within { IfSome result (λ i. i < length names.now) }
 {
     for (i, n) in names.iter().enumerate() {
-        if n.as_str().as_bytes() == word {
+        if is_same(n.as_str().as_bytes(), word) {
             return Some(i);
         }
     }
@@ -430,7 +456,7 @@ fn place_of_proc(procs: &[Proc], word: &[u8]) -> Option<usize>
     ensures within { IfSome result (λ i. i < length procs.now) }
 {
     for (i, p) in procs.iter().enumerate() {
-        if p.name.as_str().as_bytes() == word {
+        if is_same(p.name.as_str().as_bytes(), word) {
             return Some(i);
         }
     }

@@ -1,6 +1,6 @@
 use Rattle.std.proofs.Common.{◌≡◌, ◌+◌, ◌-◌, length, refl, arith}
 use Rattle.std.proofs.lemmas.List.{take_rest, take_all}
-use Rattle.tau_text.proofs.Cuts.{place, line_cut, line_body, lines_whole, lines_nil, body_all}
+use Rattle.tau_text.proofs.Cuts.{place, line_cut, line_body, lines_whole, lines_nil, body_all, line_utf8, last_utf8}
 use Rattle.tau_text.proofs.lines.first_line.Goals as goal
 
 pub returns-then-n-text-clause-cut : goal.returns-then-n-text-clause-cut
@@ -25,3 +25,11 @@ pub returns-clause-body : goal.returns-clause-body
 returns-clause-body c =
     let t = c.args.text.now in
     rw (take_rest t (c.place_of-n.result + 1)) (line_body t c.place_of-n.result c.place_of-n.ensures.first (omega arith))
+
+pub returns-then-n-text-clause-utf8 : goal.returns-then-n-text-clause-utf8
+returns-then-n-text-clause-utf8 c = last_utf8 c.args.text.now
+
+pub returns-clause-utf8 : goal.returns-clause-utf8
+returns-clause-utf8 c =
+    let t = c.args.text.now in
+    rw (take_rest t (c.place_of-n.result + 1)) (line_utf8 t c.place_of-n.result c.place_of-n.ensures.first (omega arith))

@@ -18,6 +18,9 @@ returns-then-text-after-gt-MAX_WORKLOAD-clause-given c =
     rw c.refusal-then-text-after-gt-MAX_WORKLOAD.ensures
     (sym c.loop-rest.invariant.so_far ∙ reads_long c.loop-rest.s c.line_read.new.s c.loop-rest.n c.args.text.now c.loop-rest.rest.now f.result.1.now f.result.0.now f.ensures.cut f.ensures.body f.ensures.shorter c.loop-rest.invariant.rest c.in-Ok.ensures.given large)
 
+pub line_read-requires-clause-text : goal.line_read-requires-clause-text
+line_read-requires-clause-text c = λ k. (c.first_line.ensures.utf8 (c.loop-rest.invariant.utf8 k)).0
+
 pub loop-rest-preserved : goal.loop-rest-preserved
 loop-rest-preserved c =
     let f = c.first_line in
@@ -26,6 +29,7 @@ loop-rest-preserved c =
       within = c.in-Ok.ensures.within;
       rest = omega (arith, f.ensures.shorter, c.loop-rest.invariant.rest);
       past = small;
+      utf8 = λ k. (f.ensures.utf8 (c.loop-rest.invariant.utf8 k)).1;
       count = omega (arith, f.ensures.shorter, c.loop-rest.invariant.count);
       so_far = sym (reads_on c.loop-rest.s c.line_read.new.s c.loop-rest.n c.args.text.now c.loop-rest.rest.now f.result.1.now f.result.0.now f.ensures.cut f.ensures.body f.ensures.shorter c.loop-rest.invariant.rest c.in-Ok.ensures.given small) ∙ c.loop-rest.invariant.so_far;
     }
