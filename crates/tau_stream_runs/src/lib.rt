@@ -2,6 +2,10 @@
 #![tactic(auto)]
 
 #[cfg(test)]
+mod acts;
+#[cfg(test)]
+mod digits;
+#[cfg(test)]
 mod open;
 #[cfg(test)]
 mod reopen;

@@ -1,3 +1,5 @@
+//! How streams are opened, on disks that fail, hold something or are new, and how they are closed again.
+use crate::digits::bytes_of;
 use std::alloc::Global;
 use std::process::Abort;
 use std::test::*;
@@ -75,118 +77,159 @@ fn wanted(at: u8, n: u8, stream: u8, call: u32) -> u64 {
     }
 }
 
-#[test]
-fn each_call_fails_in_turn(rt: HostRuntime) -> Result<(), Fail> {
-    let alloc = rt.alloc();
-    for n in 1..4u8 {
-        for stream in 0..n {
-            for call in 1..8u32 {
-                let (refusal, calls) = calls_made(alloc, n, stream, call)?;
-                assert!(rt; refusal == Some(OpenRefusal::Failed { stream }));
-                assert_eq!(rt; calls[0], wanted(0, n, stream, call), "{call} of {stream}");
-                assert_eq!(rt; calls[1], wanted(1, n, stream, call), "{call} of {stream}");
-                assert_eq!(rt; calls[2], wanted(2, n, stream, call), "{call} of {stream}");
-                assert_eq!(rt; calls[3], 0);
-            }
-        }
+// The refusal, and the calls of all four disks, when the disk of one stream fails at a call.
+fn fails(
+    rt: &impl Abort,
+    alloc: Global,
+    n: u8,
+    stream: u8,
+    call: u32,
+    refusal: Option<OpenRefusal>,
+    calls: [u64; 4],
+) -> Result<(), Fail> {
+    let made = calls_made(alloc, n, stream, call)?;
+    assert!(rt;
+        made.0 == refusal && made.1 == calls,
+        "{call} of {stream} of {n}"
+    );
+    Ok(())
+}
+
+fn each_call_of(rt: &impl Abort, alloc: Global, n: u8, stream: u8) -> Result<(), Fail> {
+    for call in 1..8u32 {
+        let calls = [
+            wanted(0, n, stream, call),
+            wanted(1, n, stream, call),
+            wanted(2, n, stream, call),
+            0,
+        ];
+        let refusal = OpenRefusal::Failed { stream };
+        fails(rt, alloc, n, stream, call, Some(refusal), calls)?;
     }
     Ok(())
 }
 
 #[test]
-fn eight_calls_do_not_open(rt: HostRuntime) -> Result<(), Fail> {
-    let alloc = rt.alloc();
-    let (refusal, calls) = calls_made(alloc, 2, 1, 8)?;
-    assert!(rt; refusal == None);
-    assert_eq!(rt; calls, [7, 7, 0, 0]);
-    Ok(())
+fn each_call_fails_in_turn(rt: HostRuntime) -> Result<(), Fail> {
+    for n in 1..4u8 {
+        for stream in 0..n {
+            each_call_of(&rt, rt.alloc(), n, stream)?;
+        }
+    }
+    fails(&rt, rt.alloc(), 2, 1, 8, None, [7, 7, 0, 0])
 }
 
+/// The images of four disks, how many of them are opened, what comes of it, the calls of each, and the images then.
+type Row = (
+    &'static [&'static str],
+    u8,
+    (Option<OpenRefusal>, [u64; 3]),
+    [u64; 4],
+    &'static [&'static str],
+);
+
+/// Stream 0 and stream 1 of two that were just made, with the catalogue of `table a`.
+const FIRST: &str =
+    "5441555255532d4c4f472d31 0002 0000 01 0000000d 04 0000000d 7461626c6520610a 00";
+
+const SECOND: &str =
+    "5441555255532d4c4f472d31 0002 0001 01 0000000d 04 0000000d 7461626c6520610a 00";
+
+static ROWS: [Row; 2] = [
+    // The lowest disk that holds bytes is named, and all of them stay.
+    (
+        &["", "616263", "61626364", "6162636465"],
+        3,
+        (
+            Some(OpenRefusal::NotEmpty {
+                stream: 1,
+                length: 3,
+            }),
+            [0, 0, 0],
+        ),
+        [1, 1, 1, 0],
+        &["", "616263", "61626364", "6162636465"],
+    ),
+    // Two streams, the second one's content ended at 13, and two disks were left. All come back in order.
+    (
+        &["", "", "616263", "61626364"],
+        2,
+        (None, [2, 13, 2]),
+        [7, 7, 0, 0],
+        &[FIRST, SECOND, "616263", "61626364"],
+    ),
+];
+
 // A disk for each of these images.
-fn holding(alloc: Global, images: [&[u8]; 4]) -> Result<Vec<MemDisk>, Fail> {
+fn holding(alloc: Global, images: &[&str]) -> Result<Vec<MemDisk>, Fail> {
     let mut disks = Vec::new(alloc);
-    for image in images {
-        disks.push(MemDisk::of_image(alloc, image)?)?;
+    for digits in images {
+        let image = bytes_of(alloc, digits)?;
+        disks.push(MemDisk::of_image(alloc, image.as_slice())?)?;
     }
     Ok(disks)
 }
 
-// The disk in this place holds these bytes.
-fn holds(rt: &impl Abort, disks: &[MemDisk], place: usize, wanted: &[u8]) -> Result<(), Fail> {
-    let disk = disks.get(place).ok_or("no disk")?;
+// A stop leaves these bytes of the disk.
+fn holds(rt: &impl Abort, alloc: Global, disk: &MemDisk, digits: &str) -> Result<(), Fail> {
     let image = disk.image(Tear::Old)?;
-    assert_eq!(rt; image.as_slice(), wanted, "disk {place}");
+    let wanted = bytes_of(alloc, digits)?;
+    assert_eq!(rt; image.as_slice(), wanted.as_slice());
+    Ok(())
+}
+
+fn hold(rt: &impl Abort, alloc: Global, disks: &[MemDisk], images: &[&str]) -> Result<(), Fail> {
+    assert_eq!(rt; disks.len(), images.len());
+    for (disk, digits) in disks.iter().zip(images.iter()) {
+        holds(rt, alloc, disk, digits)?;
+    }
+    Ok(())
+}
+
+fn open_rows(rt: &impl Abort, alloc: Global, rows: &[Row]) -> Result<(), Fail> {
+    for (before, n, told, calls, after) in rows {
+        let mut disks = holding(alloc, before)?;
+        let found = opened(alloc, &mut disks, *n)?;
+        assert!(rt; found == *told && calls_of(&disks) == *calls);
+        hold(rt, alloc, &disks, after)?;
+    }
     Ok(())
 }
 
 #[test]
-fn the_lowest_disk_that_holds_bytes(rt: HostRuntime) -> Result<(), Fail> {
-    let alloc = rt.alloc();
-    let mut disks = holding(alloc, [b"", b"abc", b"abcd", b"abcde"])?;
-    let (refusal, _) = opened(alloc, &mut disks, 3)?;
-    let wanted = OpenRefusal::NotEmpty {
-        stream: 1,
-        length: 3,
-    };
-    assert!(rt; refusal == Some(wanted));
-    assert_eq!(rt; disks.len(), 4);
-    assert_eq!(rt; calls_of(&disks), [1, 1, 1, 0]);
-    holds(&rt, &disks, 2, b"abcd")
+fn what_comes_of_openings(rt: HostRuntime) -> Result<(), Fail> {
+    open_rows(&rt, rt.alloc(), &ROWS)
 }
 
-// The disk in this place holds the header of that stream of n, and the catalogue of `table a`.
-fn holds_begun(
-    rt: &impl Abort,
-    alloc: Global,
-    disks: &[MemDisk],
-    n: u8,
-    place: u8,
-) -> Result<(), Fail> {
-    let mut wanted = Vec::from_slice(alloc, b"TAURUS-LOG-1")?;
-    wanted.extend_from_slice(&[0, n, 0, place])?;
-    wanted.extend_from_slice(b"\x01\x00\x00\x00\x0d\x04\x00\x00\x00\x0dtable a\n\x00")?;
-    holds(rt, disks, usize::from(place), &wanted)
-}
-
-#[test]
-fn disks_come_back_in_order(rt: HostRuntime) -> Result<(), Fail> {
-    let alloc = rt.alloc();
-    let mut disks = holding(alloc, [b"", b"", b"abc", b"abcd"])?;
-    let (refusal, counts) = opened(alloc, &mut disks, 2)?;
-    assert!(rt; refusal == None);
-    // Two streams, the second one's content ended at 13, and two disks were left.
-    assert_eq!(rt; counts, [2, 13, 2]);
-    assert_eq!(rt; disks.len(), 4);
-    holds_begun(&rt, alloc, &disks, 2, 0)?;
-    holds_begun(&rt, alloc, &disks, 2, 1)?;
-    holds(&rt, &disks, 2, b"abc")?;
-    holds(&rt, &disks, 3, b"abcd")
-}
-
-// Sixteen new disks.
-fn sixteen(alloc: Global) -> Result<Vec<MemDisk>, Fail> {
+// Sixteen new disks, which were opened and closed. No disk was left meanwhile.
+fn sixteen(rt: &impl Abort, alloc: Global) -> Result<Vec<MemDisk>, Fail> {
     let mut disks = Vec::new(alloc);
     for _ in 0..16u8 {
         disks.push(MemDisk::new(alloc, &[])?)?;
     }
+    let told = opened(alloc, &mut disks, 16)?;
+    assert!(rt; told == (None, [16, 13, 0]) && disks.len() == 16);
     Ok(disks)
+}
+
+// The disk holds the header of that stream of 16, and the catalogue of `table a`, and has had seven calls.
+fn begins(rt: &impl Abort, alloc: Global, disk: &MemDisk, j: u8) -> Result<(), Fail> {
+    let mut wanted = Vec::from_slice(alloc, b"TAURUS-LOG-1\x00\x10\x00")?;
+    wanted.push(j)?;
+    wanted.extend_from_slice(b"\x01\x00\x00\x00\x0d\x04\x00\x00\x00\x0dtable a\n\x00")?;
+    let image = disk.image(Tear::Old)?;
+    assert!(rt;
+        image.as_slice() == wanted.as_slice() && disk.calls() == 7,
+        "disk {j}"
+    );
+    Ok(())
 }
 
 #[test]
 fn sixteen_streams(rt: HostRuntime) -> Result<(), Fail> {
-    let alloc = rt.alloc();
-    let mut disks = sixteen(alloc)?;
-    assert_eq!(rt; disks.len(), 16);
-    let (refusal, counts) = opened(alloc, &mut disks, 16)?;
-    assert!(rt; refusal == None);
-    // No disk was left.
-    assert_eq!(rt; counts[2], 0);
-    assert_eq!(rt; disks.len(), 16);
-    for j in 0..16u8 {
-        holds_begun(&rt, alloc, &disks, 16, j)?;
-    }
-    for disk in &disks {
-        assert_eq!(rt; disk.calls(), 7);
+    let disks = sixteen(&rt, rt.alloc())?;
+    for (j, disk) in (0..16u8).zip(disks.iter()) {
+        begins(&rt, rt.alloc(), disk, j)?;
     }
     Ok(())
 }

@@ -1,27 +1,17 @@
+//! Runs that go on with a stream: what its disk then holds, and how many calls that takes.
 ghost use Rattle.std.specs.Prelude.{◌≡◌, ◌++◌, ◌∷◌, [], false, length, IfOk};
 ghost use Rattle.tau_block.specs.Image.{count_in, format_in, header_of, index_in};
 ghost use Rattle.tau_stream.specs.Writer.{added_of, has_failed, left_of};
 
+use crate::acts::{Act, Holds, Row, goes};
+use crate::digits::{BEGUN, CATALOGUE, LOG, PUT, bytes_of};
 use std::alloc::Global;
+use std::process::Abort;
 use std::test::*;
 use tau_base::{Format, MAX_BODY, most_streams, same_format};
 use tau_block::{contents_of, header, header_wide};
 use tau_disk::{MemDisk, Tear};
 use tau_stream::{Flush, Writer};
-
-// The log of a stream of one: the catalogue of `table a`, and the data record of `put a 1 5`.
-const LOG: [u8; 80] = [
-    84, 65, 85, 82, 85, 83, 45, 76, 79, 71, 45, 49, 0, 1, 0, 0, 1, 0, 0, 0, 13, 4, 0, 0, 0, 13,
-    116, 97, 98, 108, 101, 32, 97, 10, 1, 0, 0, 0, 40, 1, 0, 0, 0, 40, 0, 0, 0, 0, 0, 0, 0, 1, 0,
-    0, 0, 0, 0, 0, 0, 1, 0, 0, 0, 0, 0, 0, 0, 0, 0, 1, 1, 0, 0, 0, 0, 0, 0, 0, 5, 0,
-];
-
-// The log of stream 31 of 32 in format 2: the same catalogue, and the same record with its wider mask.
-const WIDE_LOG: [u8; 82] = [
-    84, 65, 85, 82, 85, 83, 45, 76, 79, 71, 45, 50, 0, 32, 0, 31, 1, 0, 0, 0, 13, 4, 0, 0, 0, 13,
-    116, 97, 98, 108, 101, 32, 97, 10, 1, 0, 0, 0, 42, 1, 0, 0, 0, 42, 0, 0, 0, 0, 0, 0, 0, 1, 0,
-    0, 0, 0, 0, 0, 0, 0, 0, 1, 0, 0, 0, 0, 0, 0, 0, 0, 0, 1, 1, 0, 0, 0, 0, 0, 0, 0, 5, 0,
-];
 
 // Which stream this is: in which format, of how many, and its index.
 #[derive(Clone, Copy)]
@@ -42,6 +32,19 @@ const WIDE: Named = Named {
     streams: 32,
     index: 31,
 };
+
+/// Stream 31 of 32 in format 2: the catalogue alone.
+const WIDE_BEGUN: &str =
+    "5441555255532d4c4f472d32 0020 001f 01 0000000d 04 0000000d 7461626c6520610a 00";
+
+/// The same with the record of `put a 1 5`, whose mask is wider.
+const WIDE_LOG: &str =
+    "5441555255532d4c4f472d32 0020 001f 01 0000000d 04 0000000d 7461626c6520610a \
+    01 0000002a 01 0000002a 0000000000000001 00000000 00000000 0001 0000 0000000000000001 01 0000000000000005 00";
+
+/// That record, of 42 bytes.
+const WIDE_PUT: &str =
+    "01 0000002a 0000000000000001 00000000 00000000 0001 0000 0000000000000001 01 0000000000000005";
 
 // The header of this stream, and a closed gate.
 fn head_of(named: Named) -> [u8; 17]
@@ -86,90 +89,127 @@ fn reopened(
     Ok(Writer::reopen(alloc, disk, head_of(named), content, body))
 }
 
-// The image after the stream went on, with the writer's durable and gathered bytes, and how many calls it made.
-fn gone_on(
-    alloc: Global,
-    named: Named,
-    image: &[u8],
-    body: &[u8],
-) -> Result<(Vec<u8>, [u64; 3]), Fail> {
-    let writer = match reopened(alloc, named, image, body)? {
-        Ok(writer) => writer,
-        Err(_) => return Err(Fail::new("refused")),
-    };
-    let counts = [writer.durable(), writer.gathered()];
-    let disk = writer.into_disk();
-    Ok((disk.image(Tear::Old)?, [counts[0], counts[1], disk.calls()]))
-}
+/// A stream, the image that its disk holds, the body with which a run goes on, and then what is done and what must come of it.
+type Going = (Named, &'static str, &'static str, Row);
 
-#[test]
-fn a_stream_goes_on_after_its_content(rt: HostRuntime) -> Result<(), Fail> {
-    let alloc = rt.alloc();
-    // The catalogue with a closed gate after it, and then the record.
-    let mut image = LOG[..34].to_vec(alloc)?;
-    image.push(0)?;
-    let (after, counts) = gone_on(alloc, NARROW, image.as_slice(), &LOG[39..79])?;
-    assert_eq!(rt; after.as_slice(), LOG.as_slice());
-    assert_eq!(rt; counts, [53, 53, 4]);
+static GOING: [Going; 8] = [
+    // After the content: the catalogue with a closed gate after it, and then the record.
+    (
+        NARROW,
+        BEGUN,
+        PUT,
+        (
+            &[Act::Stands(53, 53, false)],
+            4,
+            &[Holds::Image(Tear::Old, LOG)],
+        ),
+    ),
     // What stands after a closed gate does not count: here a block that a stop left.
-    let mut image = LOG[..34].to_vec(alloc)?;
-    image.extend_from_slice(&[0, 0, 0, 0, 2, 7, 7, 0])?;
-    let (after, counts) = gone_on(alloc, NARROW, image.as_slice(), &LOG[39..79])?;
-    assert_eq!(rt; after.as_slice(), LOG.as_slice());
-    assert_eq!(rt; counts, [53, 53, 4]);
-    Ok(())
+    (
+        NARROW,
+        "5441555255532d4c4f472d31 0001 0000 01 0000000d 04 0000000d 7461626c6520610a \
+        00 00000002 0707 00",
+        PUT,
+        (
+            &[Act::Stands(53, 53, false)],
+            4,
+            &[Holds::Image(Tear::Old, LOG)],
+        ),
+    ),
+    // An unborn stream gets its header: with no byte, a part of a header, and 17 bytes of something else.
+    (
+        NARROW,
+        "",
+        CATALOGUE,
+        (
+            &[Act::Stands(13, 13, false)],
+            6,
+            &[Holds::Image(Tear::Old, BEGUN)],
+        ),
+    ),
+    (
+        NARROW,
+        "07 0707070707070707",
+        CATALOGUE,
+        (
+            &[Act::Stands(13, 13, false)],
+            6,
+            &[Holds::Image(Tear::Old, BEGUN)],
+        ),
+    ),
+    (
+        NARROW,
+        "07 0707070707070707 0707070707070707",
+        CATALOGUE,
+        (
+            &[Act::Stands(13, 13, false)],
+            6,
+            &[Holds::Image(Tear::Old, BEGUN)],
+        ),
+    ),
+    // A stream of format 2: on an empty disk it begins with the header.
+    (
+        WIDE,
+        "",
+        CATALOGUE,
+        (
+            &[Act::Stands(13, 13, false)],
+            6,
+            &[Holds::Image(Tear::Old, WIDE_BEGUN)],
+        ),
+    ),
+    (
+        WIDE,
+        WIDE_BEGUN,
+        WIDE_PUT,
+        (
+            &[Act::Stands(55, 55, false)],
+            4,
+            &[Holds::Image(Tear::Old, WIDE_LOG)],
+        ),
+    ),
+    // What goes on can be flushed.
+    (
+        NARROW,
+        BEGUN,
+        PUT,
+        (
+            &[
+                Act::Stands(53, 53, false),
+                Act::Adds,
+                Act::Flushes(93, Ok(())),
+                Act::Stands(93, 93, false),
+            ],
+            8,
+            &[Holds::Image(
+                Tear::Old,
+                "5441555255532d4c4f472d31 0001 0000 01 0000000d 04 0000000d 7461626c6520610a \
+                01 00000028 01 00000028 0000000000000001 00000000 0000 0001 0000 0000000000000001 01 0000000000000005 \
+                01 00000028 01 00000028 0000000000000001 00000000 0000 0001 0000 0000000000000001 01 0000000000000005 00",
+            )],
+        ),
+    ),
+];
+
+/// The stream that these digits spell, after the run went on with it.
+fn gone_on(alloc: Global, named: Named, image: &str, body: &str) -> Result<Writer<MemDisk>, Fail> {
+    let image = bytes_of(alloc, image)?;
+    let body = bytes_of(alloc, body)?;
+    match reopened(alloc, named, image.as_slice(), body.as_slice())? {
+        Ok(writer) => Ok(writer),
+        Err(_) => Err(Fail::new("refused")),
+    }
 }
 
-#[test]
-fn an_unborn_stream_gets_its_header(rt: HostRuntime) -> Result<(), Fail> {
-    let alloc = rt.alloc();
-    // No byte, a part of a header, and 17 bytes of something else.
-    for size in [0usize, 9, 17] {
-        let image = vec![in alloc; 7; size]?;
-        let (after, counts) = gone_on(alloc, NARROW, image.as_slice(), &LOG[21..34])?;
-        let mut wanted = LOG[..34].to_vec(alloc)?;
-        wanted.push(0)?;
-        assert_eq!(rt; after.as_slice(), wanted.as_slice());
-        assert_eq!(rt; counts, [13, 13, 6]);
+fn go_on(rt: &impl Abort, alloc: Global, rows: &[Going]) -> Result<(), Fail> {
+    for (named, image, body, row) in rows {
+        let writer = gone_on(alloc, *named, image, body)?;
+        goes(rt, alloc, writer, row)?;
     }
     Ok(())
 }
 
 #[test]
-fn a_stream_of_format_2_goes_on(rt: HostRuntime) -> Result<(), Fail> {
-    let alloc = rt.alloc();
-    let mut begun = WIDE_LOG[..34].to_vec(alloc)?;
-    begun.push(0)?;
-    // On an empty disk it begins with the header.
-    let (after, counts) = gone_on(alloc, WIDE, &[], &WIDE_LOG[21..34])?;
-    assert_eq!(rt; after.as_slice(), begun.as_slice());
-    assert_eq!(rt; counts, [13, 13, 6]);
-    let (after, counts) = gone_on(alloc, WIDE, begun.as_slice(), &WIDE_LOG[39..81])?;
-    assert_eq!(rt; after.as_slice(), WIDE_LOG.as_slice());
-    assert_eq!(rt; counts, [55, 55, 4]);
-    Ok(())
-}
-
-#[test]
-fn what_goes_on_can_be_flushed(rt: HostRuntime) -> Result<(), Fail> {
-    let alloc = rt.alloc();
-    let mut image = LOG[..34].to_vec(alloc)?;
-    image.push(0)?;
-    let mut writer = match reopened(alloc, NARROW, image.as_slice(), &LOG[39..79])? {
-        Ok(writer) => writer,
-        Err(_) => return Err(Fail::new("refused")),
-    };
-    assert!(rt; writer.durable() == 53);
-    writer.add(&LOG[39..79])?;
-    writer.prepare(93)?;
-    writer.flush(93)?;
-    assert_eq!(rt; writer.durable(), 93);
-    let disk = writer.into_disk();
-    let mut wanted = LOG[..79].to_vec(alloc)?;
-    wanted.extend_from_slice(&[1, 0, 0, 0, 40])?;
-    wanted.extend_from_slice(&LOG[39..79])?;
-    wanted.push(0)?;
-    assert_eq!(rt; disk.image(Tear::Old)?.as_slice(), wanted.as_slice());
-    assert_eq!(rt; disk.calls(), 8);
-    Ok(())
+fn streams_that_go_on(rt: HostRuntime) -> Result<(), Fail> {
+    go_on(&rt, rt.alloc(), &GOING)
 }

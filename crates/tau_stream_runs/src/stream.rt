@@ -1,10 +1,15 @@
+//! Streams that are made and flushed: their images, what they hold when a call of the disk fails or a stop comes, and the calls that
+//! they make.
 ghost use Rattle.std.specs.Prelude.{◌≡◌, [], false};
 ghost use Rattle.tau_disk.specs.Disk.{HasCause};
 ghost use Rattle.tau_disk.specs.Left.{may_leave_each};
 ghost use Rattle.tau_disk.specs.Memory.{seen_by};
 
+use crate::acts::{Act, Holds, Row, adds_digits, are_held, flush, goes, is_image};
+use crate::digits::{LOG, PUT, bytes_of};
 use std::alloc::Global;
 use std::cell::Cell;
+use std::process::Abort;
 use std::test::*;
 use tau_base::MAX_BODY;
 use tau_block::{ImageRefusal, append_tail, contents_of, header};
@@ -12,99 +17,182 @@ use tau_disk::{Disk, Failed, Gate, MemDisk, Place, Tear};
 use tau_record::{RecordRefusal, decode};
 use tau_stream::{Flush, Writer, publish};
 
-// The log of a stream of one: the catalogue of `table a`, and the data record of `put a 1 5`.
-const LOG: [u8; 80] = [
-    84, 65, 85, 82, 85, 83, 45, 76, 79, 71, 45, 49, 0, 1, 0, 0, 1, 0, 0, 0, 13, 4, 0, 0, 0, 13,
-    116, 97, 98, 108, 101, 32, 97, 10, 1, 0, 0, 0, 40, 1, 0, 0, 0, 40, 0, 0, 0, 0, 0, 0, 0, 1, 0,
-    0, 0, 0, 0, 0, 0, 1, 0, 0, 0, 0, 0, 0, 0, 0, 0, 1, 1, 0, 0, 0, 0, 0, 0, 0, 5, 0,
-];
-
-// Asks the length, creates the stream, and flushes the data record. Calls 2 to 7 create it, 8 to 11 flush.
-fn written(alloc: Global, disk: MemDisk) -> MemDisk
-    requires { seen_by disk ≡ [] }
-{
-    let mut disk = disk;
-    if disk.len().is_err() {
-        return disk;
-    }
-    let mut writer = match Writer::create(alloc, disk, 1, 0, b"table a\n") {
-        Ok(writer) => writer,
-        Err((disk, _)) => return disk,
-    };
-    match writer.add(&LOG[39..79]) {
-        Ok(()) => {}
-        Err(_) => return writer.into_disk(),
-    }
-    match writer.prepare(53) {
-        Ok(()) => {}
-        Err(_) => return writer.into_disk(),
-    }
-    let _ = writer.flush(53);
-    writer.into_disk()
+/// Adds the record, and flushes it.
+fn put(alloc: Global, writer: &mut Writer<MemDisk>) -> Result<(), Fail> {
+    adds_digits(alloc, writer, PUT)?;
+    let _ = flush(writer, 53)?;
+    Ok(())
 }
 
-// How many bytes of content the three images of a stop hold.
-fn held(alloc: Global, disk: &MemDisk) -> Result<[usize; 3], Fail> {
-    let mut sizes = [0; 3];
-    for (k, tear) in [Tear::Old, Tear::New, Tear::Torn].iter().enumerate() {
-        let image = disk.image(*tear)?;
-        let content = contents_of(alloc, &image, 0)?;
-        sizes[k] = content.bytes.len();
+/// Asks the length, creates the stream, and flushes the data record. Calls 2 to 7 create it, 8 to 11 flush.
+fn written(alloc: Global, mut disk: MemDisk) -> Result<MemDisk, Fail>
+    requires { seen_by disk ≡ [] }
+{
+    if disk.len().is_err() {
+        return Ok(disk);
     }
-    Ok(sizes)
+    match Writer::create(alloc, disk, 1, 0, b"table a\n") {
+        Ok(mut writer) => {
+            put(alloc, &mut writer)?;
+            Ok(writer.into_disk())
+        }
+        Err((disk, _)) => Ok(disk),
+    }
+}
+
+/// The disk after this call failed, and all were made if none was to fail.
+fn failed_at(alloc: Global, call: u32) -> Result<MemDisk, Fail> {
+    let disk = MemDisk::new(alloc, &[call])?;
+    written(alloc, disk)
+}
+
+/// The disk after a stop at this call.
+fn stopped_at(alloc: Global, call: u32) -> Result<MemDisk, Fail> {
+    let disk = MemDisk::stopping(alloc, call, true)?;
+    written(alloc, disk)
 }
 
 #[test]
-fn calls_of_a_stream(rt: HostRuntime) -> Result<(), Fail> {
+fn all_calls(rt: HostRuntime) -> Result<(), Fail> {
     let alloc = rt.alloc();
-    let disk = written(alloc, MemDisk::new(alloc, &[])?);
+    let disk = failed_at(alloc, 12)?;
     assert_eq!(rt; disk.calls(), 11);
-    assert_eq!(rt; disk.image(Tear::Old)?.as_slice(), LOG.as_slice());
-    assert_eq!(rt; held(alloc, &disk)?, [53, 53, 53]);
+    is_image(&rt, alloc, &disk, Tear::Old, LOG)?;
+    are_held(&rt, alloc, &disk, [53, 53, 53])
+}
+
+/// A call, and how many bytes of content the images hold after it failed, and after a stop at it.
+static FAULTS: [(u32, [usize; 3], [usize; 3]); 10] = [
+    (2, [0, 0, 0], [0, 0, 0]),
+    (3, [0, 0, 0], [0, 0, 0]),
+    (4, [0, 0, 0], [0, 0, 0]),
+    (5, [0, 0, 0], [0, 0, 0]),
+    (6, [0, 0, 0], [0, 13, 0]),
+    (7, [0, 13, 0], [0, 13, 0]),
+    (8, [13, 13, 13], [13, 13, 13]),
+    (9, [13, 13, 13], [13, 13, 13]),
+    (10, [13, 13, 13], [13, 53, 13]),
+    (11, [13, 53, 13], [13, 53, 13]),
+];
+
+fn fails(rt: &impl Abort, alloc: Global, call: u32, sizes: [usize; 3]) -> Result<(), Fail> {
+    let disk = failed_at(alloc, call)?;
+    assert_eq!(rt; disk.calls(), u64::from(call));
+    are_held(rt, alloc, &disk, sizes)
+}
+
+fn stops(rt: &impl Abort, alloc: Global, call: u32, sizes: [usize; 3]) -> Result<(), Fail> {
+    let disk = stopped_at(alloc, call)?;
+    are_held(rt, alloc, &disk, sizes)
+}
+
+fn fail_and_stop(
+    rt: &impl Abort,
+    alloc: Global,
+    rows: &[(u32, [usize; 3], [usize; 3])],
+) -> Result<(), Fail> {
+    for (call, failed, stopped) in rows {
+        fails(rt, alloc, *call, *failed)?;
+        stops(rt, alloc, *call, *stopped)?;
+    }
     Ok(())
 }
 
 #[test]
 fn each_call_fails_in_turn(rt: HostRuntime) -> Result<(), Fail> {
-    let alloc = rt.alloc();
-    let rows = [
-        (2u32, [0usize, 0, 0], [0usize, 0, 0]),
-        (3, [0, 0, 0], [0, 0, 0]),
-        (4, [0, 0, 0], [0, 0, 0]),
-        (5, [0, 0, 0], [0, 0, 0]),
-        (6, [0, 0, 0], [0, 13, 0]),
-        (7, [0, 13, 0], [0, 13, 0]),
-        (8, [13, 13, 13], [13, 13, 13]),
-        (9, [13, 13, 13], [13, 13, 13]),
-        (10, [13, 13, 13], [13, 53, 13]),
-        (11, [13, 53, 13], [13, 53, 13]),
-    ];
-    for (call, failed, stopped) in rows {
-        let disk = written(alloc, MemDisk::new(alloc, &[call])?);
-        assert_eq!(rt; disk.calls(), u64::from(call));
-        assert_eq!(rt; held(alloc, &disk)?, failed, "call {call} fails");
-        let disk = written(alloc, MemDisk::stopping(alloc, call, true)?);
-        assert_eq!(rt; held(alloc, &disk)?, stopped, "a stop at call {call}");
+    fail_and_stop(&rt, rt.alloc(), &FAULTS)
+}
+
+/// Streams that are made on a disk of which this call fails, and what is done with them.
+static MADE: [(u32, Row); 4] = [
+    // A failed writer says so.
+    (
+        8,
+        (
+            &[
+                Act::Stands(13, 13, false),
+                Act::Adds,
+                Act::Flushes(53, Err(Flush::Failed)),
+                Act::Stands(13, 53, true),
+            ],
+            8,
+            &[],
+        ),
+    ),
+    // Nothing to flush makes no call.
+    (
+        7,
+        (
+            &[
+                Act::Flushes(13, Err(Flush::Idle)),
+                Act::Adds,
+                Act::Flushes(13, Err(Flush::Idle)),
+                Act::Stands(13, 53, false),
+            ],
+            6,
+            &[],
+        ),
+    ),
+    // A part of what was gathered: the second block has two records.
+    (
+        1_000,
+        (
+            &[
+                Act::Adds,
+                Act::Adds,
+                Act::Adds,
+                Act::Flushes(53, Ok(())),
+                Act::Stands(53, 133, false),
+                Act::Flushes(133, Ok(())),
+                Act::Stands(133, 133, false),
+            ],
+            14,
+            &[
+                Holds::Contents(133),
+                Holds::Image(
+                    Tear::New,
+                    "5441555255532d4c4f472d31 0001 0000 01 0000000d 04 0000000d 7461626c6520610a \
+                    01 00000028 01 00000028 0000000000000001 00000000 0000 0001 0000 0000000000000001 01 0000000000000005 \
+                    01 00000050 01 00000028 0000000000000001 00000000 0000 0001 0000 0000000000000001 01 0000000000000005 \
+                    01 00000028 0000000000000001 00000000 0000 0001 0000 0000000000000001 01 0000000000000005 00",
+                ),
+            ],
+        ),
+    ),
+    // A block of the largest body.
+    (
+        1_000,
+        (
+            &[
+                Act::AddsLongest,
+                Act::Stands(13, 13 + MAX_BODY as u64, false),
+                Act::Flushes(13 + MAX_BODY as u64, Ok(())),
+            ],
+            10,
+            &[Holds::Contents(13 + MAX_BODY)],
+        ),
+    ),
+];
+
+fn made(alloc: Global, failing: u32) -> Result<Writer<MemDisk>, Fail> {
+    let disk = MemDisk::new(alloc, &[failing])?;
+    match Writer::create(alloc, disk, 1, 0, b"table a\n") {
+        Ok(writer) => Ok(writer),
+        Err(_) => Err(Fail::new("refused")),
+    }
+}
+
+fn go_on(rt: &impl Abort, alloc: Global, rows: &[(u32, Row)]) -> Result<(), Fail> {
+    for (failing, row) in rows {
+        let writer = made(alloc, *failing)?;
+        goes(rt, alloc, writer, row)?;
     }
     Ok(())
 }
 
 #[test]
-fn a_failed_writer_says_so(rt: HostRuntime) -> Result<(), Fail> {
-    let alloc = rt.alloc();
-    let mut writer = match Writer::create(alloc, MemDisk::new(alloc, &[8])?, 1, 0, b"table a\n") {
-        Ok(writer) => writer,
-        Err(_) => panic!(rt; "refused"),
-    };
-    assert!(rt; !writer.failed());
-    writer.add(&LOG[39..79])?;
-    writer.prepare(53)?;
-    assert!(rt; writer.flush(53) == Err(Flush::Failed));
-    assert!(rt; writer.failed());
-    assert_eq!(rt; writer.durable(), 13);
-    assert_eq!(rt; writer.gathered(), 53);
-    assert_eq!(rt; writer.into_disk().calls(), 8);
-    Ok(())
+fn streams_that_are_made(rt: HostRuntime) -> Result<(), Fail> {
+    go_on(&rt, rt.alloc(), &MADE)
 }
 
 // A call of a disk.
@@ -222,7 +310,7 @@ fn order_of_calls(rt: HostRuntime) -> Result<(), Fail> {
         Ok(writer) => writer,
         Err(_) => panic!(rt; "refused"),
     };
-    writer.add(&LOG[39..79])?;
+    writer.add(&[7; 40])?;
     writer.prepare(53)?;
     let gate = Watch {
         calls: &calls,
@@ -234,109 +322,50 @@ fn order_of_calls(rt: HostRuntime) -> Result<(), Fail> {
     assert_eq!(rt; gate.asked.get(), 1);
     assert!(rt; gate.place.get() == Some((Place::Flush { stream: 2 }, 8)));
     let disk = writer.into_disk();
-    let wanted = [
-        Noted::Write(0, 17),
-        Noted::Sync,
-        Noted::Write(17, 18),
-        Noted::Sync,
-        Noted::Write(16, 1),
-        Noted::Sync,
-        Noted::Write(35, 45),
-        Noted::Sync,
-        Noted::Write(34, 1),
-        Noted::Sync,
-    ];
-    assert!(rt; disk.noted.as_slice() == wanted.as_slice());
+    assert!(rt; disk.noted.as_slice() == NOTED.as_slice());
     Ok(())
 }
 
-#[test]
-fn nothing_to_flush_makes_no_call(rt: HostRuntime) -> Result<(), Fail> {
-    let alloc = rt.alloc();
-    let mut writer = match Writer::create(alloc, MemDisk::new(alloc, &[])?, 1, 0, b"table a\n") {
-        Ok(writer) => writer,
-        Err(_) => panic!(rt; "refused"),
-    };
-    writer.prepare(13)?;
-    assert!(rt; writer.flush(13) == Err(Flush::Idle));
-    writer.add(&LOG[39..79])?;
-    writer.prepare(13)?;
-    assert!(rt; writer.flush(13) == Err(Flush::Idle));
-    assert!(rt; !writer.failed());
-    assert_eq!(rt; writer.durable(), 13);
-    assert_eq!(rt; writer.gathered(), 53);
-    assert_eq!(rt; writer.into_disk().calls(), 6);
-    Ok(())
+static NOTED: [Noted; 10] = [
+    Noted::Write(0, 17),
+    Noted::Sync,
+    Noted::Write(17, 18),
+    Noted::Sync,
+    Noted::Write(16, 1),
+    Noted::Sync,
+    Noted::Write(35, 45),
+    Noted::Sync,
+    Noted::Write(34, 1),
+    Noted::Sync,
+];
+
+/// The disk of a stream of one after a body of so many bytes was published there.
+fn published(alloc: Global, size: usize) -> Result<MemDisk, Fail> {
+    let filled = vec![in alloc; 9; size]?;
+    let body = filled.as_slice();
+    if body.is_empty() || body.len() > MAX_BODY {
+        return Err(Fail::new("no body"));
+    }
+    let mut block = Vec::new(alloc);
+    append_tail(&mut block, body)?;
+    if block.len() > 2 * MAX_BODY {
+        return Err(Fail::new("a long block"));
+    }
+    let mut disk = MemDisk::of_image(alloc, &header(1, 0))?;
+    publish(&mut disk, 16, block.as_slice())?;
+    Ok(disk)
 }
 
-#[test]
-fn a_part_of_what_was_gathered(rt: HostRuntime) -> Result<(), Fail> {
-    let alloc = rt.alloc();
-    let mut writer = match Writer::create(alloc, MemDisk::new(alloc, &[])?, 1, 0, b"table a\n") {
-        Ok(writer) => writer,
-        Err(_) => panic!(rt; "refused"),
-    };
-    writer.add(&LOG[39..79])?;
-    writer.add(&LOG[39..79])?;
-    writer.add(&LOG[39..79])?;
-    writer.prepare(53)?;
-    writer.flush(53)?;
-    assert_eq!(rt; writer.durable(), 53);
-    assert_eq!(rt; writer.gathered(), 133);
-    writer.prepare(133)?;
-    writer.flush(133)?;
-    assert_eq!(rt; writer.durable(), 133);
-    assert_eq!(rt; writer.gathered(), 133);
-    let disk = writer.into_disk();
-    assert_eq!(rt; disk.calls(), 14);
-    assert_eq!(rt; held(alloc, &disk)?, [133, 133, 133]);
-    // The second block has two records.
-    let mut wanted = LOG[..79].to_vec(alloc)?;
-    wanted.extend_from_slice(&[1, 0, 0, 0, 80])?;
-    wanted.extend_from_slice(&LOG[39..79])?;
-    wanted.extend_from_slice(&LOG[39..79])?;
-    wanted.push(0)?;
-    assert_eq!(rt; disk.image(Tear::New)?.as_slice(), wanted.as_slice());
-    Ok(())
+fn publishes(rt: &impl Abort, alloc: Global, size: usize) -> Result<(), Fail> {
+    let disk = published(alloc, size)?;
+    assert_eq!(rt; disk.calls(), 4);
+    are_held(rt, alloc, &disk, [size, size, size])
 }
 
 #[test]
 fn smallest_and_largest_bodies(rt: HostRuntime) -> Result<(), Fail> {
-    let alloc = rt.alloc();
-    for size in [1usize, MAX_BODY] {
-        let filled = vec![in alloc; 9; size]?;
-        let body = filled.as_slice();
-        assert!(rt; 1 <= body.len());
-        assert!(rt; body.len() <= MAX_BODY);
-        let mut block = Vec::new(alloc);
-        append_tail(&mut block, body)?;
-        assert!(rt; block.len() <= 2 * MAX_BODY);
-        let mut disk = MemDisk::of_image(alloc, &header(1, 0))?;
-        publish(&mut disk, 16, block.as_slice())?;
-        assert_eq!(rt; held(alloc, &disk)?, [size, size, size]);
-        assert_eq!(rt; disk.calls(), 4);
-    }
-    Ok(())
-}
-
-#[test]
-fn a_block_of_the_largest_body(rt: HostRuntime) -> Result<(), Fail> {
-    let alloc = rt.alloc();
-    let mut writer = match Writer::create(alloc, MemDisk::new(alloc, &[])?, 1, 0, b"table a\n") {
-        Ok(writer) => writer,
-        Err(_) => panic!(rt; "refused"),
-    };
-    let filled = vec![in alloc; 9; MAX_BODY]?;
-    let body = filled.as_slice();
-    assert!(rt; body.len() == MAX_BODY);
-    writer.add(body)?;
-    let upto = writer.gathered();
-    assert!(rt; upto == 13 + MAX_BODY as u64);
-    writer.prepare(upto)?;
-    writer.flush(upto)?;
-    let all = 13 + MAX_BODY;
-    assert_eq!(rt; held(alloc, &writer.into_disk())?, [all, all, all]);
-    Ok(())
+    publishes(&rt, rt.alloc(), 1)?;
+    publishes(&rt, rt.alloc(), MAX_BODY)
 }
 
 // What an image of stream 0 of one reads as: 0 where it is good, the number of an image's cause, or 10 and the
@@ -354,34 +383,53 @@ fn found(alloc: Global, image: &[u8]) -> (u8, u64) {
     }
 }
 
+/// Where bytes of the log are set, to what, the cause and its place.
+static HOSTILE: [(usize, &str, u8, u64); 13] = [
+    (0, "", 0, 0),
+    (0, "00", 1, 0),
+    (12, "0011", 2, 0),
+    (14, "0001", 3, 0),
+    (17, "00000000", 4, 0),
+    (21, "01", 12, 0),
+    (39, "09", 12, 13),
+    (40, "00000029", 11, 13),
+    (40, "00000027", 13, 13),
+    (44, "0000000000000000", 16, 13),
+    (52, "00000001", 14, 13),
+    (58, "0000", 16, 13),
+    (70, "03", 16, 13),
+];
+
+/// The log, in which these bytes are set from here on.
+fn with_bytes(alloc: Global, from: usize, digits: &str) -> Result<Vec<u8>, Fail> {
+    let log = bytes_of(alloc, LOG)?;
+    let bytes = bytes_of(alloc, digits)?;
+    let past = bytes.len().saturating_add(from);
+    let mut image = Vec::new(alloc);
+    image.extend_from_slice(log.get(..from).unwrap_or(&[]))?;
+    image.extend_from_slice(bytes.as_slice())?;
+    image.extend_from_slice(log.get(past..).unwrap_or(&[]))?;
+    Ok(image)
+}
+
+fn are_found(rt: &impl Abort, alloc: Global, rows: &[(usize, &str, u8, u64)]) -> Result<(), Fail> {
+    for (from, digits, cause, at) in rows {
+        let image = with_bytes(alloc, *from, digits)?;
+        assert_eq!(rt; image.len(), 80);
+        assert_eq!(rt;
+            found(alloc, image.as_slice()),
+            (*cause, *at),
+            "from {from}"
+        );
+    }
+    Ok(())
+}
+
 #[test]
 fn hostile_images(rt: HostRuntime) -> Result<(), Fail> {
     let alloc = rt.alloc();
-    assert_eq!(rt; found(alloc, LOG.as_slice()), (0, 0));
-    assert_eq!(rt; found(alloc, &LOG[..34]), (4, 0));
-    // From where bytes are set, to what, the cause and its place.
-    let rows = [
-        (0usize, [0u8].as_slice(), 1u8, 0u64),
-        (12, [0, 17].as_slice(), 2, 0),
-        (14, [0, 1].as_slice(), 3, 0),
-        (17, [0, 0, 0, 0].as_slice(), 4, 0),
-        (21, [1].as_slice(), 12, 0),
-        (39, [9].as_slice(), 12, 13),
-        (40, [0, 0, 0, 41].as_slice(), 11, 13),
-        (40, [0, 0, 0, 39].as_slice(), 13, 13),
-        (44, [0, 0, 0, 0, 0, 0, 0, 0].as_slice(), 16, 13),
-        (52, [0, 0, 0, 1].as_slice(), 14, 13),
-        (58, [0, 0].as_slice(), 16, 13),
-        (70, [3].as_slice(), 16, 13),
-    ];
-    for (from, bytes, cause, at) in rows {
-        let past = bytes.len().saturating_add(from);
-        let mut image = Vec::new(alloc);
-        image.extend_from_slice(LOG.get(..from).unwrap_or(&[]))?;
-        image.extend_from_slice(bytes)?;
-        image.extend_from_slice(LOG.get(past..).unwrap_or(&[]))?;
-        assert_eq!(rt; image.len(), 80);
-        assert_eq!(rt; found(alloc, image.as_slice()), (cause, at), "from {from}");
-    }
-    Ok(())
+    let log = bytes_of(alloc, LOG)?;
+    let front = log.get(..34).ok_or("a short log")?;
+    assert_eq!(rt; found(alloc, front), (4, 0));
+    are_found(&rt, alloc, &HOSTILE)
 }
