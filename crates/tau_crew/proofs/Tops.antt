@@ -10,6 +10,7 @@ use Rattle.tau_stream.specs.declared.writer.Writer.{Writer}
 use Rattle.tau_text.specs.declared.load.Workload.{Workload}
 use Rattle.tau_report.specs.declared.report.RunEnd.{RunEnd}
 use Rattle.tau_core.specs.declared.opening.Opening.{Opening}
+use Rattle.tau_core.specs.declared.state.Load.{Load}
 use Rattle.tau_core.specs.State.{Plain}
 use Rattle.tau_core.specs.Opens.{Opened, load_of}
 use Rattle.tau_run.specs.Start.{catalogue_of}
@@ -28,7 +29,7 @@ use Rattle.tau_crew.proofs.WorkReturn.{all_ready, at_start, ready_stays, start_s
 use Rattle.tau_crew.proofs.WorkStays.{workers_stay_clerk, workers_then}
 use Rattle.tau_base.proofs.Lists.{some_at, got_or}
 use Rattle.tau_run.specs.Gives.{GaveFrom, GaveNew}
-use Rattle.tau_run.proofs.Came.{gave_by}
+use Rattle.tau_run.proofs.Came.{Around, gave_by}
 use Rattle.tau_crew_facts.specs.Threads.{in_threads, lasting}
 
 -- ---- the beginning
@@ -88,8 +89,11 @@ all_start desk h h1 h2 clerk opened first unbegun keeps split w low =
 -- ---- the same run, but for how long what was stored lasts
 
 module _ {D : Type 0} {G : Ghosts D} (style : Style) (m : ℕ) (mode : LogMode) (load : Workload) (ws ws' : List (Writer D G)) (hears : Type 0) (held held' : List ℕ) (sink_rose : Type 0) (r : Result RunEnd NoMemory) where
+  abbrev around : (ℕ → List ℕ) → Load → Around G
+  around bases l = record { bases = bases; load = l; before = ws; after = ws'; hears = hears; held_before = held; held_after = held'; sink_rose = sink_rose }
+
   pub threads_plain : GaveNew (lasting style ws') m mode load ws ws' hears held held' sink_rose r → GaveNew (in_threads style) m mode load ws ws' hears held held' sink_rose r
-  threads_plain gave = (gave.0, gave.1, gave_by (lasting style ws') (in_threads style) (λ j. catalogue_of load) gave.0 ws ws' (λ whole opening p q. q.0) hears held held' sink_rose r gave.2)
+  threads_plain gave = (gave.0, gave.1, gave_by (around (λ j. catalogue_of load) gave.0) (lasting style ws') (in_threads style) (λ whole opening p q. q.0) r gave.2)
 
   pub plain_from : (o : Opening) (bases : ℕ → List ℕ) → GaveFrom (lasting style ws') o bases m mode load ws ws' hears held held' sink_rose r → GaveFrom (in_threads style) o bases m mode load ws ws' hears held held' sink_rose r
-  plain_from o bases gave = gave_by (lasting style ws') (in_threads style) bases (load_of load.declarations.procs load.calls mode m o) ws ws' (λ whole opening p q. q.0) hears held held' sink_rose r gave
+  plain_from o bases gave = gave_by (around bases (load_of load.declarations.procs load.calls mode m o)) (lasting style ws') (in_threads style) (λ whole opening p q. q.0) r gave

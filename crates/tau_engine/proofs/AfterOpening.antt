@@ -97,8 +97,7 @@ module _ {D : Type 0} {G : Ghosts D} (only_now : OnlyNow G) (choice : Choice) (l
 
     module _ (threads : load.turns ≡ None) (e : RunEnd) (c : Concluded (in_threads choice.style) (opened_at load start) l ws after out.hears out.held held1 (Rose out.faults faults1) e) (none : e.disk ≡ None) where
       abbrev t : CameTo by (opened_at load start) l ws after c.acks
-      t = of.came_by (in_threads choice.style) by (opened_at load start) l ws after
-          (λ whole opening p x. subst (λ (turns : Option (List Turn)). ran_by turns choice.style n m load whole l opening p) (sym threads) x) c.came
+      t = of.came_by c.came (λ whole opening p x. subst (λ (turns : Option (List Turn)). ran_by turns choice.style n m load whole l opening p) (sym threads) x)
 
       going : NamesLowest l.streams (stops_in c.came.state) None
       going = subst (λ (o : Option ℕ). NamesLowest l.streams (stops_in c.came.state) o) none c.disk

@@ -37,7 +37,7 @@ pub gave : {D : Type 0} {G : Ghosts D} (by : ℕ → Bool → Load → Core → 
 gave by by' n m mode load also ws ws' count hears held held' sink_rose result x = (
   x.0,
   subst (λ (k : ℕ). IsLoadOn k m mode load (fresh_start k) x.0) count x.1,
-  gave_by (by n) by' (opened_at load (fresh_start n)) x.0 ws ws' (λ whole opening p q. also whole x.0 opening p q) hears held held' sink_rose result
+  gave_by (record { bases = opened_at load (fresh_start n); load = x.0; before = ws; after = ws'; hears = hears; held_before = held; held_after = held'; sink_rose = sink_rose }) (by n) by' (λ whole opening p q. also whole x.0 opening p q) result
       (subst (λ (k : ℕ). Gave (by k) (opened_at load (fresh_start n)) x.0 ws ws' hears held held' sink_rose result) count
       (subst (λ (b : ℕ → List ℕ). Gave (by (length ws)) b x.0 ws ws' hears held held' sink_rose result) (sym (fresh_opened n load)) x.2)),
 )

@@ -58,7 +58,7 @@ use Rattle.tau_engine.proofs.Streams.{OnlyNow, fresh_way, Joined, clean_below, f
 module _ {D : Type 0} {G : Ghosts D} (only_now : OnlyNow G) (n m : ℕ) (load : Workload) (old mid new : List D) (many : n ≤ length old) (ws after : List (Writer D G)) (streams : AreOpened G n (catalogue_of load) old mid ws) (back : new ≡ map disk_of after ++ mid)
     (tells : G.tells) (hears : Type 0) (held held' : List ℕ) (rose : Type 0) (end : RunEnd) (sound : IsSoundLoad load) (l : Load) (load_is : IsLoadOn n m Values load (fresh_start n) l) (how : Bool → Load → Core → Progress → Type 0) (also : (whole : Bool) (opening : Core) (p : Progress) → how whole l opening p → chosen_by load.turns Locking n m load whole l opening p) (h : Concluded how (opened_at load (fresh_start n)) l ws after hears held held' rose end) (works : end.sink_failed ≡ false) where
   abbrev t : CameTo (chosen_by load.turns Locking n m load) (opened_at load (fresh_start n)) l ws after h.acks
-  t = came_by how (chosen_by load.turns Locking n m load) (opened_at load (fresh_start n)) l ws after also h.came
+  t = came_by h.came also
 
   abbrev s : Core
   s = t.state

@@ -8,7 +8,6 @@ use Rattle.tau_base.specs.Modes.{format_of, most_streams}
 use Rattle.tau_disk.specs.declared.disk.Disk.{Ghosts}
 use Rattle.tau_stream.specs.declared.writer.Writer.{Writer}
 use Rattle.tau_machine.proofs.Results.{run_theorem}
-use Rattle.tau_machine.specs.Accounts.{in_worker}
 use Rattle.tau_machine.specs.Reports.{reported}
 use Rattle.tau_machine.specs.State.{Core}
 use Rattle.tau_text.specs.declared.load.Workload.{Workload}
@@ -19,7 +18,8 @@ use Rattle.tau_scan.specs.Sound.{IsSound}
 use Rattle.tau_run.specs.Start.{Start, old_at, opened_at, IsStart}
 use Rattle.tau_run.specs.Run.{Run, AllAcked, told_of}
 use Rattle.tau_run.specs.CoreRun.{IsCourse, IsLoadOn, IsRunOf, IsSoundLoad}
-use Rattle.tau_run.specs.Gives.{CameTo, came_far, Concluded, CutOff, Gave}
+use Rattle.tau_run.specs.Gives.{CameTo, came_far, Gave}
+use Rattle.tau_run.specs.Keeping.{NoneLost}
 use Rattle.tau_run.specs.Outside.{Outside}
 use Rattle.tau_run.specs.RecoveredFacts.{IsEnded}
 use Rattle.tau_run.specs.RunFacts.{Ending, IsCoreRun, IsCoreRunAt, RunTells, RunFacts}
@@ -32,49 +32,58 @@ use Rattle.tau_run.proofs.Waits.{waits_for}
 
 -- ---- the same run by other words for how its events were chosen
 
-module _ {D : Type 0} {G : Ghosts D} (by by' : Bool → Load → Core → Progress → Type 0) (bases : ℕ → List ℕ) (l : Load) (ws ws' : List (Writer D G)) (also : (whole : Bool) (opening : Core) (p : Progress) → by whole l opening p → by' whole l opening p) where
-  abbrev pub came_by : {acks : List (ℕ × List ℕ)} → CameTo by bases l ws ws' acks → CameTo by' bases l ws ws' acks
-  came_by {acks} t = record {
-    opening = t.opening;
-    first = t.first;
-    state = t.state;
-    events = t.events;
-    joined = t.joined;
-    led = t.led;
-    part = also false t.opening (record { state = t.state; events = t.events; joined = t.joined; told = acks }) t.part;
-    contents = t.contents;
-    streams = t.streams;
-    given = t.given;
-    acked = t.acked;
-    room = t.room;
-    stop_low = t.stop_low;
-    writers = t.writers;
+-- whatever was chosen by the first words was also chosen by the others
+abbrev pub Also : Load → (by by' : Bool → Load → Core → Progress → Type 0) → Type 0
+Also l by by' = (whole : Bool) (opening : Core) (p : Progress) → by whole l opening p → by' whole l opening p
+
+abbrev pub came_by : {D : Type 0} {G : Ghosts D} {by by' : Bool → Load → Core → Progress → Type 0} {bases : ℕ → List ℕ} {l : Load} {ws ws' : List (Writer D G)} {acks : List (ℕ × List ℕ)} → CameTo by bases l ws ws' acks → Also l by by' → CameTo by' bases l ws ws' acks
+came_by {acks = acks} t also = record {
+  opening = t.opening;
+  first = t.first;
+  state = t.state;
+  events = t.events;
+  joined = t.joined;
+  led = t.led;
+  part = also false t.opening (record { state = t.state; events = t.events; joined = t.joined; told = acks }) t.part;
+  contents = t.contents;
+  streams = t.streams;
+  given = t.given;
+  acked = t.acked;
+  room = t.room;
+  stop_low = t.stop_low;
+  writers = t.writers;
+}
+
+-- What a run had around it: what its streams held when it began, the load that its core stands on, its writers and its sink,
+-- before and after.
+pub record Around {D : Type 0} (G : Ghosts D) : Type 1 where
+  pub bases : ℕ → List ℕ
+  pub load : Load
+  pub before : List (Writer D G)
+  pub after : List (Writer D G)
+  pub hears : Type 0
+  pub held_before : List ℕ
+  pub held_after : List ℕ
+  pub sink_rose : Type 0
+
+module _ {D : Type 0} {G : Ghosts D} (a : Around G) (by by' : Bool → Load → Core → Progress → Type 0) (also : Also a.load by by') where
+  pub gave_by : (result : Result RunEnd NoMemory) → Gave by a.bases a.load a.before a.after a.hears a.held_before a.held_after a.sink_rose result → Gave by' a.bases a.load a.before a.after a.hears a.held_before a.held_after a.sink_rose result
+  gave_by (Ok end) c = record {
+    acks = c.acks;
+    came = came_by c.came also;
+    whole = also true c.came.opening (came_far c.came) c.whole;
+    over = c.over;
+    kept = c.kept;
+    heard = c.heard;
+    sink = c.sink;
+    disk = c.disk;
+    told = c.told;
+    fates = c.fates;
+    order = c.order;
+    tables = c.tables;
   }
-
-  module _ (hears : Type 0) (held held' : List ℕ) (sink_rose : Type 0) where
-    pub concluded_by : (end : RunEnd) → Concluded by bases l ws ws' hears held held' sink_rose end → Concluded by' bases l ws ws' hears held held' sink_rose end
-    concluded_by end c = record {
-      acks = c.acks;
-      came = came_by c.came;
-      whole = also true c.came.opening (came_far c.came) c.whole;
-      over = c.over;
-      kept = c.kept;
-      heard = c.heard;
-      sink = c.sink;
-      disk = c.disk;
-      told = c.told;
-      fates = c.fates;
-      order = c.order;
-      tables = c.tables;
-    }
-
-    cut_by : CutOff by bases l ws ws' hears held held' sink_rose → CutOff by' bases l ws ws' hears held held' sink_rose
-    cut_by c = record { acks = c.acks; came = came_by c.came; count = c.count; sink_failed = c.sink_failed; heard = c.heard; sink = c.sink }
-
-    pub gave_by : (result : Result RunEnd NoMemory) → Gave by bases l ws ws' hears held held' sink_rose result → Gave by' bases l ws ws' hears held held' sink_rose result
-    gave_by (Ok end) c = concluded_by end c
-    gave_by (Err no_memory) (inl c) = inl (cut_by c)
-    gave_by (Err no_memory) (inr none) = inr none
+  gave_by (Err no_memory) (inl c) = inl (record { acks = c.acks; came = came_by c.came also; count = c.count; sink_failed = c.sink_failed; heard = c.heard; sink = c.sink })
+  gave_by (Err no_memory) (inr none) = inr none
 
 -- ---- on streams that begin so
 
@@ -118,7 +127,7 @@ module _ {D : Type 0} {G : Ghosts D} {by : Bool → Load → Core → Progress �
   }
 
   -- no call of the workload is lost, if none was given up
-  pub complete : IsOver n t.state → ((k : ℕ) → 1 ≤ k → k ≤ length l.calls → (w : ℕ) × (1 ≤ in_worker k (t.state.workers w))) → ((j : ℕ) → j < n → (t.state.streams j).stop ≡ None) → AllAcked load run_of
+  pub complete : IsOver n t.state → NoneLost (length l.calls) t.state → ((j : ℕ) → j < n → (t.state.streams j).stop ≡ None) → AllAcked load run_of
   complete over kept going =
       kept_acked n m mode load l t.joined t.state run_of course is_run over
       (λ k low high. kept k low (let calls : length l.calls ≡ length load.calls = ap (length {A = Call}) on.load_is.calls in omega (arith, high, calls))) going

@@ -1,16 +1,16 @@
 -- No call is lost: each number that a worker accounts for is that of a committed call at the end, and is acknowledged.
-use Rattle.std.proofs.Common.{ℕ, ◌<◌, ◌≤◌, ◌≡◌, true, List, length, subst}
+use Rattle.std.proofs.Common.{ℕ, ◌<◌, ◌≡◌, true, List, length, subst}
 use Rattle.std.specs.Prelude.{None}
 use Rattle.tau_base.specs.declared.value.LogMode.{LogMode}
 use Rattle.tau_model.specs.History.{Act}
 use Rattle.tau_machine.specs.Hands.{Txn}
 use Rattle.tau_machine.specs.State.{Core}
-use Rattle.tau_machine.specs.Accounts.{in_worker}
 use Rattle.tau_text.specs.declared.load.Workload.{Workload}
 use Rattle.tau_core.specs.declared.state.Load.{Load}
 use Rattle.tau_core.specs.View.{setting_of}
 use Rattle.tau_run.specs.Run.{Run, AllAcked, has_ack}
 use Rattle.tau_run.specs.CoreRun.{IsRunOf, IsCourse}
+use Rattle.tau_run.specs.Keeping.{NoneLost}
 use Rattle.tau_run.specs.StopsLeave.{IsOver}
 use Rattle.tau_run.proofs.Complete.{committed_at}
 use Rattle.tau_run.proofs.Ended.{all_acked_of}
@@ -18,7 +18,7 @@ use Rattle.tau_run.proofs.Sound.{declared}
 
 -- of the events nothing is needed but that each number is still somewhere
 pub kept_acked : (n m : ℕ) (mode : LogMode) (load : Workload) (l : Load) (K : List (Act Txn)) (s : Core) (run : Run) (c : IsCourse n m mode load run.start l K s) → IsRunOf n l K s load run → IsOver n s →
-    ((k : ℕ) → 1 ≤ k → k ≤ length load.calls → (w : ℕ) × (1 ≤ in_worker k (s.workers w))) → ((j : ℕ) → j < n → (s.streams j).stop ≡ None) → AllAcked load run
+    NoneLost (length load.calls) s → ((j : ℕ) → j < n → (s.streams j).stop ≡ None) → AllAcked load run
 kept_acked n m mode load l K s run c is over kept going k low high =
     let w = kept k low high in
     let rest = over.done going w.0 in

@@ -9,7 +9,6 @@ use Rattle.tau_stream.specs.declared.writer.Writer.{Writer}
 use Rattle.tau_model.specs.History.{Act}
 use Rattle.tau_model.specs.Tables.{IsTablesOf}
 use Rattle.tau_machine.specs.Hands.{Txn}
-use Rattle.tau_machine.specs.Accounts.{in_worker}
 use Rattle.tau_machine.specs.Events.{Event}
 use Rattle.tau_machine.specs.Reports.{reported}
 use Rattle.tau_machine.specs.Runs as machine
@@ -24,6 +23,7 @@ use Rattle.tau_run.specs.Start.{fresh_start, catalogue_of}
 use Rattle.tau_run.specs.CoreRun.{AreAcks, IsFirstState, IsGiven, IsLoadOn}
 use Rattle.tau_run.specs.Fates.{fates_by}
 use Rattle.tau_run.specs.Heard.{Heard}
+use Rattle.tau_run.specs.Keeping.{NoneLost}
 use Rattle.tau_run.specs.StopsLeave.{IsOver, NamesLowest, stops_in}
 use Rattle.tau_run.specs.Turns.{Progress}
 use Rattle.tau_run.specs.Writers.{EachOf, Left}
@@ -57,7 +57,7 @@ module _ {D : Type 0} {G : Ghosts D} (by : Bool → Load → Core → Progress �
     pub came : CameTo by bases l ws ws' acks
     pub whole : by true l came.opening (came_far came)
     pub over : IsOver l.streams came.state
-    pub kept : (k : ℕ) → 1 ≤ k → k ≤ length l.calls → (w : ℕ) × (1 ≤ in_worker k (came.state.workers w))
+    pub kept : NoneLost (length l.calls) came.state
     pub heard : hears → Heard held acks end.sink_failed held'
     pub sink : end.sink_failed ≡ true → sink_rose
     pub disk : NamesLowest l.streams (stops_in came.state) end.disk

@@ -34,7 +34,8 @@ module _ {D : Type 0} {G : Ghosts D} (style : Style) (m : ℕ) (mode : LogMode) 
 
   -- the same without the calls of the disks
   gave_plain : (by : Bool → Load → Core → Progress → Type 0) (bases : ℕ → List ℕ) (l : Load) (r : Result RunEnd NoMemory) → Gave (counting ws ws' by) bases l ws ws' hears held held' sink_rose r → Gave by bases l ws ws' hears held held' sink_rose r
-  gave_plain by bases l r gave = gave_by (counting ws ws' by) by bases l ws ws' (λ whole opening p q. q.0) hears held held' sink_rose r gave
+  gave_plain by bases l r gave =
+      gave_by (record { bases = bases; load = l; before = ws; after = ws'; hears = hears; held_before = held; held_after = held'; sink_rose = sink_rose }) (counting ws ws' by) by (λ whole opening p q. q.0) r gave
 
   pub turns_plain : (r : Result RunEnd NoMemory) → GaveNew (counting ws ws' (by_turns style (length ws) m load)) m mode load ws ws' hears held held' sink_rose r → GaveNew (by_turns style (length ws) m load) m mode load ws ws' hears held held' sink_rose r
   turns_plain r gave = (gave.0, gave.1, gave_plain (by_turns style (length ws) m load) (λ j. catalogue_of load) gave.0 r gave.2)
