@@ -47,6 +47,7 @@ impl Clerk {
     }
 
     /// Tells the last call that was acknowledged.
+    #[inline(never)]
     fn tell<K: Sink>(&mut self, sink: &mut K) -> Result<(), NoMemory>
         ensures acks { OnOk result (self.new.acks ≡ self.old.acks ++ (self.old.call.number, self.old.call.lv) ∷ []) }
         ensures heard { OnOk result (K.tells → (base : List ℕ) → Heard base self.old.acks self.old.sink_failed (K.held sink.old) → Heard base self.new.acks self.new.sink_failed (K.held sink.new)) }
@@ -69,6 +70,7 @@ impl Clerk {
     }
 
     /// Acknowledges the first pending call of a worker that the persisted positions cover, and returns whether there was one.
+    #[inline(always)]
     fn next<K: Sink>(&mut self, core: &mut Core, sink: &mut K, worker: u8) -> Result<bool, NoMemory>
         requires stood { Stood core.old }
         requires there { worker < core.old.load.workers }
@@ -92,6 +94,7 @@ impl Clerk {
     }
 
     /// Acknowledges all pending calls of a worker that the persisted positions cover, in the order in which they ended.
+    #[inline(always)]
     fn pass_worker<K: Sink>(
         &mut self,
         core: &mut Core,
@@ -113,6 +116,7 @@ impl Clerk {
     }
 
     /// One pass over all workers in ascending order.
+    #[inline(always)]
     pub(crate) fn pass<K: Sink>(
         &mut self,
         core: &mut Core,

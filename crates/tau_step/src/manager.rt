@@ -30,6 +30,7 @@ pub(crate) enum Managing {
 
 /// The manager gathers, flushes one block if anything is new, and raises the persisted position. A disk that has failed is used
 /// no more. The bytes go by way of `body`, whose memory is used again.
+#[inline(always)]
 pub(crate) fn manager_turn<D: Disk>(
     core: &mut Core,
     writer: &mut Writer<D>,
@@ -57,6 +58,7 @@ pub(crate) fn manager_turn<D: Disk>(
 }
 
 /// Flushes what was gathered up to there. Where all of it is durable nothing is handed over.
+#[inline(never)]
 fn flush_gathered<D: Disk>(
     core: &mut Core,
     writer: &mut Writer<D>,

@@ -68,6 +68,7 @@ fn either(first: bool, second: bool) -> bool
 
 impl Run {
     /// A turn of a worker, and whether it did anything.
+    #[inline(always)]
     fn work(
         &mut self,
         style: Style,
@@ -90,6 +91,7 @@ impl Run {
     }
 
     /// A turn of a worker in the style Locking, and whether it did anything.
+    #[inline(always)]
     fn work_alone(&mut self, worker: u8) -> Result<bool, NoMemory>
         requires stood { Stood self.old.core }
         requires there { worker < self.old.core.load.workers }
@@ -102,6 +104,7 @@ impl Run {
     }
 
     /// A turn of an optimistic worker, and whether it did anything.
+    #[inline(never)]
     fn work_peeking(
         &mut self,
         load: &Workload,
@@ -121,6 +124,7 @@ impl Run {
     }
 
     /// A turn of a manager.
+    #[inline(always)]
     fn manage<D: Disk>(
         &mut self,
         writers: &mut Vec<Writer<D>>,
@@ -147,6 +151,7 @@ impl Run {
     }
 
     /// A turn of the clerk.
+    #[inline(always)]
     fn clerk<K: Sink>(&mut self, sink: &mut K) -> Result<(), NoMemory>
         requires stood { Stood self.old.core }
         requires workers { self.old.workers ≡ self.old.core.load.workers }
@@ -272,6 +277,7 @@ impl Run {
     }
 
     /// A turn of each worker, and whether any did anything.
+    #[inline(always)]
     fn workers_round(
         &mut self,
         style: Style,

@@ -93,6 +93,7 @@ fn done(core: &mut Core, worker: u8) -> Result<bool, NoMemory>
 }
 
 /// The next action of the worker, and whether it had any. After a stop it finishes the call in hand and begins no other.
+#[inline(always)]
 pub(crate) fn worker_turn(core: &mut Core, worker: u8, stopped: bool) -> Result<bool, NoMemory>
     requires stood { Stood core.old }
     requires there { worker < core.old.load.workers }
