@@ -1,4 +1,7 @@
 //! Runs by turns in both styles, against reports that were worked by hand.
+ghost use Rattle.std.specs.Prelude.{◌≤◌};
+ghost use Rattle.tau_base.specs.declared.limits.TheConstants.{MAX_WORKERS};
+
 use crate::tests::{created, opening, told};
 use std::alloc::Global;
 use std::test::*;
@@ -8,9 +11,18 @@ use tau_occ::Style;
 use tau_step::run_turns_from;
 use tau_text::parse_workload;
 
-/// What a run of two workers in this style over this text, on two new streams, tells. The calls of the second one's disk with
-/// these numbers fail.
-fn told_on(alloc: Global, text: &[u8], style: Style, failing: &[u32]) -> Result<Vec<u8>, Fail> {
+/// What a run of so many workers in this style over this text, on two new streams, tells. The calls of the second one's disk
+/// with these numbers fail.
+pub fn told_by(
+    alloc: Global,
+    text: &[u8],
+    m: u8,
+    style: Style,
+    failing: &[u32],
+) -> Result<Vec<u8>, Fail>
+    requires low { 1 ≤ m }
+    requires high { m ≤ MAX_WORKERS }
+{
     let load = match parse_workload(alloc, text) {
         Ok(load) => load,
         Err(_) => return Err("the text".into()),
@@ -25,13 +37,18 @@ fn told_on(alloc: Global, text: &[u8], style: Style, failing: &[u32]) -> Result<
         alloc,
         &load,
         opening,
-        2,
+        m,
         LogMode::Values,
         &mut writers,
         &mut sink,
         style,
     )?;
     told(alloc, &load, &end, &sink)
+}
+
+/// The same of two workers.
+fn told_on(alloc: Global, text: &[u8], style: Style, failing: &[u32]) -> Result<Vec<u8>, Fail> {
+    told_by(alloc, text, 2, style, failing)
 }
 
 /// The same on disks of which none fails.

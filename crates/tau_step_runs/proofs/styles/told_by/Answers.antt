@@ -4,7 +4,7 @@ use Rattle.std.specs.Prelude.{Some, slice_get}
 use Rattle.std.proofs.lemmas.Option.{slice_get_read}
 use Rattle.tau_run.specs.Start.{catalogue_of}
 use Rattle.tau_step_runs.proofs.Openings.{begun}
-use Rattle.tau_step_runs.proofs.styles.told_on.Goals as goal
+use Rattle.tau_step_runs.proofs.styles.told_by.Goals as goal
 
 pub run_turns_from-requires-clause-streams : goal.run_turns_from-requires-clause-streams
 run_turns_from-requires-clause-streams c = omega (arith, ap (length {A = ℕ}) c.opening-opening.ensures.ends)
