@@ -23,7 +23,9 @@ use Rattle.tau_desk.specs.Resumes.{CanGoOn}
 use Rattle.tau_desk.specs.Shares.{PlainWork}
 use Rattle.tau_desk.specs.Seats.{HasStock, Heads, PlainHead}
 use Rattle.tau_crew_facts.specs.Closing.{ClerkDone, EndsBy, ManagerApart, ManagerDone}
-use Rattle.tau_crew_facts.specs.Ends.{AreApart, IsThreadDone}
+use Rattle.tau_run.specs.Keeping.{NoneLost}
+use Rattle.tau_run.specs.StopsLeave.{IsOver}
+use Rattle.tau_crew_facts.specs.Ends.{AreApart, stopped_by}
 use Rattle.tau_crew_facts.specs.Spacing.{IsSpacing}
 use Rattle.tau_crew_facts.proofs.Closing.{thread_apart, thread_done}
 use Rattle.tau_crew.specs.declared.clerk.ClerkJob.{ClerkJob}
@@ -108,9 +110,9 @@ module _ {D : Type 0} {G : Ghosts D} (first : Plain) (table : TableId) (bases : 
   pub closes_done : {style : Style} (result : Plain) → desk.IsClosing first style h.me.0 result → ClosesDone first style bases ws (map writer_in jobs) h jobs telling result
   closes_done result k = record {
     run = closes_run first table bases ws h jobs telling b d result k;
-    done = λ q. subst (λ (s : Core). IsThreadDone first.load s (map writer_in jobs)) (sym (closes_state first table bases ws h jobs telling b d result k))
+    done = λ q. subst (λ (s : Core). IsOver first.load.streams (stopped_by (map writer_in jobs) s) × NoneLost (length first.load.calls) s) (sym (closes_state first table bases ws h jobs telling b d result k))
         (thread_done first h.me.0 (worker_back h) (managed_back first h) (acked_back first h) k.state (closing first table bases ws h jobs telling b d result k) bases ws (map writer_in jobs) (all_told telling.told) b.managers.writers (λ w lt. (b.head.workers w lt).loose)
-        (knows first table bases ws h jobs telling b d) (telling_back first table bases ws h jobs telling b d) (λ w lt. record { rests = (q.workers w lt).rests; kept = (q.workers w lt).kept }) (done_manager q) (done_clerk q) (λ works. nothing_left first table bases ws h jobs telling b d result k q.memory q.workers (b.clerk.clerk.raised q.telling_memory) works q.left));
+        (knows first table bases ws h jobs telling b d) (telling_back first table bases ws h jobs telling b d) (λ w lt. record { rests = (q.workers w lt).rests; kept = (q.workers w lt).kept }) (done_manager q) (done_clerk q) (λ goes. nothing_left first table bases ws h jobs telling b d result k q.memory q.workers (b.clerk.clerk.raised q.telling_memory) goes q.left));
     apart = λ memory. subst (λ (s : Core). AreApart bases first.load s) (sym (closes_state first table bases ws h jobs telling b d result k))
         (thread_apart first h.me.0 (worker_back h) (managed_back first h) (acked_back first h) k.state (closing first table bases ws h jobs telling b d result k) bases ws (map writer_in jobs) (all_told telling.told) b.managers.writers (λ w lt. (b.head.workers w lt).loose)
         (knows first table bases ws h jobs telling b d) (telling_back first table bases ws h jobs telling b d) (apart_at memory));

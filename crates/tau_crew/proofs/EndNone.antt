@@ -18,7 +18,9 @@ use Rattle.tau_desk.specs.Ends as desk
 use Rattle.tau_desk.specs.Resumes.{AllRest, CanGoOn, Rests, RestsWork, left_in}
 use Rattle.tau_desk.specs.Seats.{HasWork, Heads, PlainHead}
 use Rattle.tau_desk.specs.Shares.{PlainWork, ShowsWorker, own_worker}
-use Rattle.tau_crew_facts.specs.Threads.{NoneFailed}
+use Rattle.tau_run.specs.StopsLeave.{NamesLowest}
+use Rattle.tau_crew_facts.specs.Ends.{stops_of}
+use Rattle.tau_crew_facts.proofs.Stops.{works_at}
 use Rattle.tau_crew.specs.declared.clerk.ClerkJob.{ClerkJob}
 use Rattle.tau_crew.specs.declared.manager.ManagerJob.{ManagerJob}
 use Rattle.tau_crew.specs.Gathering.{raised_in}
@@ -37,7 +39,7 @@ raised_by (suc n) f e none =
     raised_by n f (sym (ap (λ (b : Bool). if b then true else is_raised n f) last) ∙ e) (λ u lt. none u (omega (arith, lt)))
 
 module _ {D : Type 0} {G : Ghosts D} (first : Plain) (table : TableId) (bases : ℕ → List ℕ) (ws : List (Writer D G)) (h : PlainHead) (jobs : List (ManagerJob D G)) (telling : ClerkJob) (b : IsAllBack first table bases ws h jobs telling) (d : Heads h) {style : Style} (result : Plain) (k : desk.IsClosing first style h.me.0 result)
-    (memory : NoneShort jobs) (ran : (w : ℕ) → w < first.load.workers → HasRunBack first.load h w) (raised : raised_in telling.seat.me.0 ≡ false) (works : NoneFailed (map writer_in jobs)) where
+    (memory : NoneShort jobs) (ran : (w : ℕ) → w < first.load.workers → HasRunBack first.load h w) (raised : raised_in telling.seat.me.0 ≡ false) (goes : NamesLowest first.load.streams (stops_of (map writer_in jobs) k.state.core.plv) None) where
   raised_at : (u : ℕ) (r : Role) → has u h.me.0 ≡ Some r → r.raised ≡ false → k.state.raised u ≡ false
   raised_at u r is low = (k.roles u r is).1 ∙ low
 
@@ -54,7 +56,7 @@ module _ {D : Type 0} {G : Ghosts D} (first : Plain) (table : TableId) (bases : 
       let (w, is) = some_at ws j (let n = b.managers.writers in omega (arith, lt, n)) in
       let driven = (b.managers.each j w job is at).manager.driven (memory j job at) in
       let its : slice_get (map writer_in jobs) j ≡ Some job.writer = slice_get-map writer_in jobs j ∙ ap (option_map writer_in) at in
-      raised_at (manager_role first.load j) (first_role job.seat.me.0.roles).1 (subst (λ (i : ℕ). has (manager_role first.load i) h.me.0 ≡ Some (first_role job.seat.me.0.roles).1) (let e : 0 + j ≡ j = omega arith in e) (b.has j job at).role) (driven.raised ∙ works j job.writer its)
+      raised_at (manager_role first.load j) (first_role job.seat.me.0.roles).1 (subst (λ (i : ℕ). has (manager_role first.load i) h.me.0 ≡ Some (first_role job.seat.me.0.roles).1) (let e : 0 + j ≡ j = omega arith in e) (b.has j job at).role) (driven.raised ∙ works_at (map writer_in jobs) k.state.core.plv j job.writer its (goes j lt))
 
   raised_clerk : k.state.raised (clerk_role first.load) ≡ false
   raised_clerk = raised_at (clerk_role first.load) (first_role telling.seat.me.0.roles).1 b.has_clerk raised

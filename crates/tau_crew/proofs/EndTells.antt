@@ -1,5 +1,5 @@
 -- What a run in threads tells at its end.
-use Rattle.std.proofs.Common.{ℕ, zero, suc, ◌+◌, ◌-◌, ◌<◌, ◌≡◌, inl, inr, Bool, true, false, Option, List, [], ◌∷◌, length, map, refl, sym, ap, subst, ◌∙◌, arith, slice_index}
+use Rattle.std.proofs.Common.{ℕ, zero, suc, ◌+◌, ◌-◌, ◌<◌, ◌≡◌, inl, inr, Bool, true, Option, List, [], ◌∷◌, length, map, refl, sym, ap, subst, ◌∙◌, arith, slice_index}
 use Rattle.std.specs.Prelude.{Some, None, Result, Ok, Err, IfOk, ◌==◌, slice_get, slice_index_or}
 use Rattle.std.specs.List.{All, filter}
 use Rattle.std.proofs.Math.Nat.{mod-lt}
@@ -9,7 +9,6 @@ use Rattle.tau_base.specs.declared.value.Call.{Call}
 use Rattle.tau_base.specs.declared.value.NoMemory.{NoMemory}
 use Rattle.tau_disk.specs.declared.disk.Disk.{Ghosts}
 use Rattle.tau_stream.specs.declared.writer.Writer.{Writer}
-use Rattle.tau_stream.specs.Writer.{has_failed}
 use Rattle.tau_model.specs.History.{Act, Member}
 use Rattle.tau_model.specs.Tables.{IsTablesOf}
 use Rattle.tau_model.proofs.Assembling.{member_mapped}
@@ -26,8 +25,10 @@ use Rattle.tau_occ.specs.declared.style.Style.{Style}
 use Rattle.tau_run.specs.Run.{pair_of}
 use Rattle.tau_desk.specs.Seats.{PlainHead}
 use Rattle.tau_run.specs.Gives.{Concluded, Gave}
-use Rattle.tau_crew_facts.specs.Threads.{IsLowestFailed, lasting}
-use Rattle.tau_crew_facts.proofs.Came.{apart_whole, came, lowest, over}
+use Rattle.tau_run.specs.StopsLeave.{NamesLowest, stops_in}
+use Rattle.tau_crew_facts.specs.Ends.{stopped_by, stops_of}
+use Rattle.tau_crew_facts.specs.Threads.{lasting}
+use Rattle.tau_crew_facts.proofs.Came.{apart_whole, came, lowest}
 use Rattle.tau_crew.specs.declared.clerk.ClerkJob.{ClerkJob}
 use Rattle.tau_crew.specs.declared.manager.ManagerJob.{ManagerJob}
 use Rattle.tau_crew.specs.declared.told.Told.{Told}
@@ -87,7 +88,7 @@ pub ends_well : {D : Type 0} {G : Ghosts D} (first : Plain) {style : Style} (bas
     IsDone first h jobs telling → telling.told.missing ≡ None → telling.told.lines.items ≡ [] → (hears → IsToldSoFar held telling.told held') → (telling.told.sink_failed ≡ true → sink_rose) → (end : RunEnd) → end.report.acks ≡ telling.told.acks →
     ((K : List (Act Txn)) (q : Hidden) → Stands core K q → end.report.fates ≡ fates_by (length core.load.calls) K telling.told.acks) →
     ((K : List (Act Txn)) (q : Hidden) → Stands core K q → end.report.order ≡ map (λ (t : Act Txn). t.call.call.number) (reported core.ends K)) →
-    ((K : List (Act Txn)) (q : Hidden) → Stands core K q → IsTablesOf (sight (setting_of core.load) (core_of core q)).row end.report.tables) → IsLowestFailed ws' end.disk → end.sink_failed ≡ telling.told.sink_failed → Concluded (lasting style ws') bases first.load ws ws' hears held held' sink_rose end
+    ((K : List (Act Txn)) (q : Hidden) → Stands core K q → IsTablesOf (sight (setting_of core.load) (core_of core q)).row end.report.tables) → NamesLowest first.load.streams (stops_in (stopped_by ws' c.run.state)) end.disk → end.sink_failed ≡ telling.told.sink_failed → Concluded (lasting style ws') bases first.load ws ws' hears held held' sink_rose end
 ends_well first bases ws ws' h jobs telling core hears held held' sink_rose long c q none written heard sink end acks fates order tables disk failed =
     let all : all_told telling.told ≡ telling.told.acks = ap (with_missing telling.told.acks) none in
     let K = c.run.came.closed.joined in
@@ -96,14 +97,14 @@ ends_well first bases ws ws' h jobs telling core hears held held' sink_rose long
       acks = all_told telling.told;
       came = came bases first long s ws ws' (all_told telling.told) c.run.came;
       whole = apart_whole bases first long s ws ws' (all_told telling.told) c.run.came (c.apart q.memory);
-      over = over bases first s ws ws' (all_told telling.told) c.run.came (c.done q);
-      kept = (c.done q).kept;
+      over = (c.done q).0;
+      kept = (c.done q).1;
       heard = λ x.
           subst (λ (f : Bool). Heard held (all_told telling.told) f held') (sym failed)
           (subst (λ (a : List (ℕ × List ℕ)). Heard held a telling.told.sink_failed held') (sym all)
           (all_heard held telling.told.acks telling.told.sink_failed held' (subst (λ (ls : List ℕ). IsSoFar held telling.told.acks ls telling.told.sink_failed held') written (heard x))));
       sink = λ e. sink (sym failed ∙ e);
-      disk = lowest bases first long s ws ws' (all_told telling.told) c.run.came end.disk disk;
+      disk = disk;
       told = acks ∙ sym all;
       fates = fates K c.run.hidden c.run.stands ∙ ap (λ (l : Load). fates_by (length l.calls) K telling.told.acks) c.run.load ∙ ap (fates_by (length first.load.calls) K) (sym all);
       order = order K c.run.hidden c.run.stands ∙ ap (λ (s : Core). map (λ (t : Act Txn). t.call.call.number) (reported s.ends K)) c.run.core;
@@ -112,19 +113,19 @@ ends_well first bases ws ws' h jobs telling core hears held held' sink_rose long
 
 -- Or, to tell it, memory ran out. The clerk's job gave back what it has told.
 pub ends_ran : {D : Type 0} {G : Ghosts D} (first : Plain) {style : Style} (bases : ℕ → List ℕ) (ws ws' : List (Writer D G)) (h : PlainHead) (jobs : List (ManagerJob D G)) (telling : ClerkJob) (core : Plain) (hears : Type 0) (held held' : List ℕ) (sink_rose : Type 0) (long : (j : ℕ) → j < first.load.streams → length (bases j) ≡ slice_index first.load.opening.ends j) (c : ClosesDone first style bases ws ws' h jobs telling core) →
-    IsDone first h jobs telling → telling.told.missing ≡ None → telling.told.lines.items ≡ [] → (hears → IsToldSoFar held telling.told held') → (telling.told.sink_failed ≡ true → sink_rose) → (t : Told) → t ≡ telling.told → (failed : Option ℕ) → IsLowestFailed ws' failed →
+    IsDone first h jobs telling → telling.told.missing ≡ None → telling.told.lines.items ≡ [] → (hears → IsToldSoFar held telling.told held') → (telling.told.sink_failed ≡ true → sink_rose) → (t : Told) → t ≡ telling.told → (failed : Option ℕ) → ((plv : List ℕ) → NamesLowest (length ws') (stops_of ws' plv) failed) →
     (result : Result RunEnd NoMemory) → IfOk result (λ end. end.report.acks ≡ t.acks) → IfOk result (λ end. (K : List (Act Txn)) (q : Hidden) → Stands core K q → end.report.fates ≡ fates_by (length core.load.calls) K t.acks) →
     IfOk result (λ end. (K : List (Act Txn)) (q : Hidden) → Stands core K q → end.report.order ≡ map (λ (a : Act Txn). a.call.call.number) (reported core.ends K)) →
     IfOk result (λ end. (K : List (Act Txn)) (q : Hidden) → Stands core K q → IsTablesOf (sight (setting_of core.load) (core_of core q)).row end.report.tables) → IfOk result (λ end. end.disk ≡ failed) → IfOk result (λ end. end.sink_failed ≡ t.sink_failed) →
     Gave (lasting style ws') bases first.load ws ws' hears held held' sink_rose result
 ends_ran first bases ws ws' h jobs telling core hears held held' sink_rose long c q none written heard sink t same failed low (Ok end) acks fates order tables disk sank =
     ends_well first bases ws ws' h jobs telling core hears held held' sink_rose long c q none written heard sink end (acks ∙ ap (λ (x : Told). x.acks) same) (λ K y g. fates K y g ∙ ap (λ (x : Told). fates_by (length core.load.calls) K x.acks) same) order tables
-    (subst (λ (f : Option ℕ). IsLowestFailed ws' f) (sym disk) low) (sank ∙ ap (λ (x : Told). x.sink_failed) same)
+    (lowest bases first c.run.state ws ws' (all_told telling.told) c.run.came end.disk (subst (λ (f : Option ℕ). NamesLowest (length ws') (stops_of ws' c.run.state.plv) f) (sym disk) (low c.run.state.plv))) (sank ∙ ap (λ (x : Told). x.sink_failed) same)
 ends_ran first bases ws ws' h jobs telling core hears held held' sink_rose long c q none written heard sink t same failed low (Err e) acks fates order tables disk sank =
     inl (ends_short first bases ws ws' telling core hears held held' sink_rose long c.run written heard sink)
 
-pub none_more : {D : Type 0} {G : Ghosts D} (ws : List (Writer D G)) (j : ℕ) → ((i : ℕ) (w : Writer D G) → i < j → slice_get ws i ≡ Some w → has_failed w ≡ false) → (x : Writer D G) → slice_get ws j ≡ Some x → has_failed x ≡ false → (i : ℕ) (w : Writer D G) → i < j + 1 → slice_get ws i ≡ Some w → has_failed w ≡ false
-none_more ws j had x at works i w lt is = elim (cases_eq i j) [
-  | inl e ↦ (let same : Some x ≡ Some w = sym at ∙ ap (slice_get ws) (sym e) ∙ is in let it : x ≡ w = cc same in ap has_failed (sym it) ∙ works)
-  | inr ne ↦ had i w (omega (arith, lt, ne)) is
+pub none_more : (stops : ℕ → Option ℕ) (j : ℕ) → ((i : ℕ) → i < j → stops i ≡ None) → stops j ≡ None → (i : ℕ) → i < j + 1 → stops i ≡ None
+none_more stops j had goes i lt = elim (cases_eq i j) [
+  | inl e ↦ ap stops e ∙ goes
+  | inr ne ↦ had i (omega (arith, lt, ne))
 ]

@@ -9,7 +9,9 @@ use Rattle.tau_desk.specs.Manages.{acked_in, managed_in}
 use Rattle.tau_desk.specs.Resumes.{CanGoOn}
 use Rattle.tau_desk.specs.Seats.{PlainHead}
 use Rattle.tau_crew_facts.specs.Closing.{ClerkDone, ManagerDone}
-use Rattle.tau_crew_facts.specs.Ends.{AreApart, IsThreadDone}
+use Rattle.tau_run.specs.Keeping.{NoneLost}
+use Rattle.tau_run.specs.StopsLeave.{IsOver}
+use Rattle.tau_crew_facts.specs.Ends.{AreApart, stopped_by}
 use Rattle.tau_crew.specs.declared.clerk.ClerkJob.{ClerkJob}
 use Rattle.tau_crew.specs.declared.manager.ManagerJob.{ManagerJob}
 use Rattle.tau_crew.specs.Ending.{HasRunBack, worker_back}
@@ -39,5 +41,5 @@ module _ {D : Type 0} {G : Ghosts D} where
   -- The core is that of a state in which the run has ended, and it has gone to its end if all of them say so.
   pub record ClosesDone (first : Plain) (style : Style) (bases : ℕ → List ℕ) (ws ws' : List (Writer D G)) (h : PlainHead) (jobs : List (ManagerJob D G)) (telling : ClerkJob) (result : Plain) : Type 0 where
     pub run : ClosesRun first style bases ws ws' telling result
-    pub done : IsDone first h jobs telling → IsThreadDone first.load run.state ws'
+    pub done : IsDone first h jobs telling → IsOver first.load.streams (stopped_by ws' run.state) × NoneLost (length first.load.calls) run.state
     pub apart : NoneShort jobs → AreApart bases first.load run.state

@@ -3,7 +3,9 @@ ghost use Rattle.std.specs.Prelude.{ℕ, ◌≡◌, ◌≤◌, [], Bool, false, 
 ghost use Rattle.tau_base.specs.declared.limits.TheConstants.{MAX_STREAMS};
 ghost use Rattle.tau_disk.specs.Disk.{Rose};
 ghost use Rattle.tau_run.specs.Gives.{CutOff, Gave};
-ghost use Rattle.tau_crew_facts.specs.Threads.{IsLowestFailed, lasting};
+ghost use Rattle.tau_run.specs.StopsLeave.{NamesLowest};
+ghost use Rattle.tau_crew_facts.specs.Ends.{stops_of};
+ghost use Rattle.tau_crew_facts.specs.Threads.{lasting};
 ghost use Rattle.tau_crew.specs.Ending.{AreManagersBack, IsBack, IsClerkBack, IsHeadBack};
 ghost use Rattle.tau_crew.specs.EndCloses.{IsAllBack};
 ghost use Rattle.tau_crew.specs.EndDone.{IsDone};
@@ -81,10 +83,10 @@ pub(crate) fn end_short<R: Wait, D: Disk, K: Sink>(
     let _ = core;
 }
 
-/// The lowest stream whose disk failed.
+/// The lowest stream whose disk failed, which is the lowest that is stopped, whatever is persisted.
 fn lowest_failed<D: Disk>(writers: &Vec<Writer<D>>) -> Option<u8>
     requires few { length writers.now.items ≤ MAX_STREAMS }
-    ensures { IsLowestFailed writers.now.items result }
+    ensures { (plv : List ℕ) → NamesLowest (length writers.now.items) (stops_of writers.now.items plv) result }
 {
     for stream in 0..writers.len() {
         if writers[stream].failed() {

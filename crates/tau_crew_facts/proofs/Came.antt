@@ -1,7 +1,6 @@
 -- What a run in threads has at its end is what a run by turns has at its end.
-use Rattle.std.proofs.Common.{ℕ, ◌<◌, ◌≤◌, ◌≡◌, ◌⊎◌, inl, inr, Bool, true, false, List, ◌++◌, map, length, take, refl, sym, ap, subst, ◌∙◌, arith, slice_index}
+use Rattle.std.proofs.Common.{ℕ, ◌<◌, ◌≡◌, Bool, true, false, List, ◌++◌, map, length, take, refl, sym, ap, subst, ◌∙◌, arith, slice_index}
 use Rattle.std.specs.Prelude.{Option, Some, None, slice_get}
-use Rattle.std.proofs.lemmas.Bool.{cases_Bool}
 use Rattle.tau_base.specs.Modes.{format_of}
 use Rattle.tau_disk.proofs.Passing.{passes_weaker}
 use Rattle.tau_disk.specs.declared.disk.Disk.{Ghosts}
@@ -24,25 +23,19 @@ use Rattle.tau_core.specs.Pieces.{IsPieceOf, Paired, Spelled}
 use Rattle.tau_occ.specs.declared.style.Style.{Style}
 use Rattle.tau_run.specs.CoreRun.{AreAcks, IsGiven}
 use Rattle.tau_run.specs.Gives.{CameTo, came_far}
-use Rattle.tau_run.specs.StopsLeave.{HasFront, HasSomeFront, IsOver, NamesLowest, stops_in}
+use Rattle.tau_run.specs.StopsLeave.{HasFront, HasSomeFront, NamesLowest, stops_in}
 use Rattle.tau_run.specs.Writers.{EachOf, Left}
 use Rattle.tau_run.proofs.Given.{contents_there}
 use Rattle.tau_run.proofs.Start.{started}
 use Rattle.tau_rule.specs.Holders.{LeadHeld}
 use Rattle.tau_rule.specs.Rule.{anchors_at}
 use Rattle.tau_crew_facts.specs.Writers.{HasPieces, HasEnough, HasWritten}
-use Rattle.tau_crew_facts.specs.Ends.{AreApart, AreLasting, IsClosed, ManagerEnds, IsThreadEnd, IsThreadDone}
+use Rattle.tau_crew_facts.specs.Ends.{AreApart, AreLasting, IsClosed, ManagerEnds, IsThreadEnd, failed_in, stopped_by, stops_of}
 use Rattle.tau_crew_facts.specs.Spacing.{IsSpacing}
-use Rattle.tau_crew_facts.specs.Threads.{lasting, IsLowestFailed}
+use Rattle.tau_crew_facts.specs.Threads.{lasting}
 use Rattle.tau_crew_facts.proofs.RunExists.{pieces_spelled, paired_front, loose_unplaced, acks_all}
-use Rattle.tau_crew_facts.proofs.Stops.{stopped_at, stops_by, stop_events, none_above, none_works, persisted_before, some_failed, stops_held, stops_led}
-use Rattle.tau_base.proofs.Lists.{some_at, got_within}
-use Rattle.tau_base.proofs.Logic.{some_is}
-
--- whether the disk of this writer failed
-abbrev pub failed_in : {D : Type 0} {G : Ghosts D} → Option (Writer D G) → Bool
-failed_in None = false
-failed_in (Some w) = has_failed w
+use Rattle.tau_crew_facts.proofs.Stops.{goes_at, persisted_before, stop_events, stopped_at, stopped_low, stops_all, stops_at, stops_by, stops_held, stops_led}
+use Rattle.tau_base.proofs.Lists.{some_at}
 
 -- ---- images
 
@@ -86,21 +79,23 @@ module _ {D : Type 0} {G : Ghosts D} (bases : ℕ → List ℕ) (first : Plain) 
   abbrev pub failed : ℕ → Bool
   failed j = failed_in (slice_get ws' j)
 
-  abbrev pub stops : ℕ → Option ℕ
-  stops = stops_by failed c.plv l.streams
-
   -- the state in which each stream whose disk failed is stopped
   abbrev pub s : Core
-  s = stopped_at stops c
+  s = stopped_by ws' c
+
+  all_stopped : stopped_at (stops_by failed c.plv l.streams) c ≡ s
+  all_stopped = ap (λ (stops : ℕ → Option ℕ). stopped_at stops c) (stops_all ws' c.plv l.streams (let a = e.count in let b = e.managers.count in omega (arith, a, b)))
 
   abbrev pub events : List Event
   events = k.events ++ stop_events failed c.plv l.streams
 
   pub led : machine.Run (setting_of l) (core_of first nothing) events k.joined s
-  led = stops_led (setting_of l) (core_of first nothing) k.events k.joined c k.run k.going failed l.streams (omega arith)
+  led = subst (λ (x : Core). machine.Run (setting_of l) (core_of first nothing) events k.joined x) all_stopped (stops_led (setting_of l) (core_of first nothing) k.events k.joined c k.run k.going failed l.streams (omega arith))
 
   pub all_held : LeadHeld (setting_of l) style events (core_of first nothing) s k.joined
-  all_held = stops_held (setting_of l) (core_of first nothing) k.events k.joined c k.run k.going failed style k.held l.streams (omega arith)
+  all_held =
+      subst (λ (x : Core). LeadHeld (setting_of l) style events (core_of first nothing) x k.joined) all_stopped
+      (stops_held (setting_of l) (core_of first nothing) k.events k.joined c k.run k.going failed style k.held l.streams (omega arith))
 
   -- no stop persists anything
   pub lasts_on : AreLasting l events ws'
@@ -112,13 +107,6 @@ module _ {D : Type 0} {G : Ghosts D} (bases : ℕ → List ℕ) (first : Plain) 
   pub are_acks : AreAcks l s acks
   are_acks = acks_all l k.joined s inv k.opened.stands.sound.workers_low acks e.clerk.told
 
-  within : (j : ℕ) (w : Writer D G) → slice_get ws j ≡ Some w → j < l.streams
-  within j w is = let lt = got_within ws j w is in let a = e.count in omega (arith, lt, a)
-
-  -- the flag of a stream is that of its writer
-  flag : (j : ℕ) (w' : Writer D G) → slice_get ws' j ≡ Some w' → failed j ≡ has_failed w'
-  flag j w' is = ap failed_in is
-
   pub writers : EachOf (λ j w w'. Left l s j (bases j) w w') ws ws'
   writers = record {
     count = e.managers.count;
@@ -126,44 +114,16 @@ module _ {D : Type 0} {G : Ghosts D} (bases : ℕ → List ℕ) (first : Plain) 
         (let x = e.managers.each j w is in (
           x.0,
           x.1,
-          writer_left l c s j (bases j) refl refl w x.0 x.2 refl
-              (λ f. none_works failed c.plv l.streams j (flag j x.0 x.1 ∙ f))
-              (λ f. (slice_index c.plv j, some_failed failed c.plv l.streams j (within j w is) (flag j x.0 x.1 ∙ f))),
+          writer_left l c s j (bases j) refl refl w x.0 x.2 refl (goes_at ws' c.plv j x.0 x.1) (λ failed. (slice_index c.plv j, stops_at ws' c.plv j x.0 x.1 failed)),
         ));
   }
 
   pub stop_is_low : (j at : ℕ) → (s.streams j).stop ≡ Some at → j < l.streams
-  stop_is_low j at is = by_side (split j l.streams)
-    where
-      split : (x y : ℕ) → (x < y) ⊎ (y ≤ x)
-      split x y = grind arith
+  stop_is_low j at is = let lt = stopped_low ws' c.plv j at is in let a = e.managers.count in let b = e.count in omega (arith, lt, a, b)
 
-      by_side : (j < l.streams) ⊎ (l.streams ≤ j) → j < l.streams
-      by_side (inl lt) = lt
-      by_side (inr le) = absurd (let bad : None ≡ Some at = sym (none_above failed c.plv l.streams j le) ∙ is in cc bad)
-
-  -- ---- where it went to its end
-
-  module _ (d : IsThreadDone l c ws') where
-    writer_at : (j : ℕ) → j < l.streams → (w' : Writer D G) × (slice_get ws' j ≡ Some w')
-    writer_at j lt = some_at ws' j (let a = e.managers.count in let b = e.count in omega (arith, a, b, lt))
-
-    -- a stream that is not stopped has a disk that works
-    works : (j : ℕ) → j < l.streams → (w' : Writer D G) → slice_get ws' j ≡ Some w' → (s.streams j).stop ≡ None → has_failed w' ≡ false
-    works j lt w' is none = elim (cases_Bool (has_failed w')) [
-      | inl fails ↦ absurd (
-          let stop = some_failed failed c.plv l.streams j lt (flag j w' is ∙ fails) in
-          let bad : None ≡ Some (slice_index c.plv j) = sym none ∙ stop in cc bad)
-      | inr fine ↦ fine
-    ]
-
-    pub over : IsOver l.streams s
-    over = record {
-      rests = d.rests;
-      persisted = λ j lt none. (let w = writer_at j lt in d.flushed j w.0 w.1 (works j lt w.0 w.1 none));
-      told = d.told;
-      done = λ going w. d.done (λ j w' is. (let a = got_within ws' j w' is in let lt : j < l.streams = (let x = e.managers.count in let y = e.count in omega (arith, a, x, y)) in works j lt w' is (going j lt))) w;
-    }
+  -- there are as many writers as streams
+  pub lowest : (o : Option ℕ) → NamesLowest (length ws') (stops_of ws' c.plv) o → NamesLowest l.streams (stops_in s) o
+  lowest o names = subst (λ (n : ℕ). NamesLowest n (stops_of ws' c.plv) o) (e.managers.count ∙ e.count) names
 
 -- ---- so far it has come
 
@@ -214,21 +174,3 @@ module _ {D : Type 0} {G : Ghosts D} (bases : ℕ → List ℕ) (first : Plain) 
     ),
     lasts_on bases first c ws ws' acks e,
   )
-
-  -- the lowest failed disk is that of the lowest stopped stream
-  pub lowest : (o : Option ℕ) → IsLowestFailed ws' o → NamesLowest first.load.streams (stops_in end) o
-  lowest None all = λ j lt.
-      (let w = some_at ws j (let count = e.count in omega (arith, lt, count)) in
-      let x = (writers bases first c ws ws' acks e).each j w.0 w.1 in
-      (x.2.goes (all j x.0 x.1)).0)
-  lowest (Some j) (f, below) =
-      let lt : j < first.load.streams = (let a = got_within ws' j f.0 f.1 in let b = e.managers.count in let d = e.count in omega (arith, a, b, d)) in
-      let v = some_at ws j (let count = e.count in omega (arith, lt, count)) in
-      let x = (writers bases first c ws ws' acks e).each j v.0 v.1 in (
-        lt,
-        (x.2.stops (subst (λ (y : Writer D G). has_failed y ≡ true) (some_is f.0 x.0 (sym f.1 ∙ x.1)) f.2)).0,
-        λ i less.
-            (let w = some_at ws i (let count = e.count in omega (arith, lt, less, count)) in
-            let y = (writers bases first c ws ws' acks e).each i w.0 w.1 in
-            (y.2.goes (below i y.0 less y.1)).0),
-      )

@@ -33,7 +33,7 @@ use Rattle.tau_rule.specs.Rule.{IsManaged, IsShare, Now, anchors_at, clerk_role,
 use Rattle.tau_crew_facts.specs.Writers.{BecameDurable, HasWritten}
 use Rattle.tau_crew_facts.specs.Telling.{IsTelling}
 use Rattle.tau_crew_facts.specs.Spacing.{IsSpacing}
-use Rattle.tau_crew_facts.specs.Ends.{AreLasting, IsLoose, IsClosed, IsThreadEnd, IsThreadDone, AreApart}
+use Rattle.tau_crew_facts.specs.Ends.{AreLasting, IsLoose, IsClosed, IsThreadEnd, AreApart, stopped_by, stops_of}
 use Rattle.tau_crew_facts.specs.Closing.{IsClosing, ManagerApart, ManagerKnows, WorkerDone, ManagerDone, ClerkDone, EndsBy, covered_count}
 use Rattle.tau_crew_facts.proofs.Telling.{pending_own}
 use Rattle.tau_crew_facts.proofs.Done.{gathered_by_views, told_by_views}
@@ -41,7 +41,10 @@ use Rattle.tau_base.proofs.Logic.{below_or_not, some_is}
 use Rattle.tau_base.proofs.Lists.{same_list, got_within, some_at}
 use Rattle.tau_crew_facts.proofs.RunExists.{no_members}
 use Rattle.tau_model.proofs.Assembling.{member_mapped}
+use Rattle.tau_run.specs.Keeping.{NoneLost}
+use Rattle.tau_run.specs.StopsLeave.{IsOver, NamesLowest}
 use Rattle.tau_run.specs.Writers.{EachOf}
+use Rattle.tau_crew_facts.proofs.Stops.{works_at}
 
 rest_unplaced : (o : Option Hand) → o ≡ None → placed_in o ≡ None
 rest_unplaced o e = ap placed_in e
@@ -181,9 +184,9 @@ module _ (first : Plain) {style : Style} (v : Knows) (workers : ℕ → Worker) 
     -- where it went to its end
     module _ (done : (w : ℕ) → w < l.workers → WorkerDone l w (workers w)) (flushed : (j : ℕ) (w' : Writer D G) → slice_get ws' j ≡ Some w' → has_failed w' ≡ false → ManagerDone l seen workers j (managers j))
         (told : (w : ℕ) → w < l.workers → ClerkDone seen (workers w) (slice_index_or acked w []))
-        (nothing_left : ((j : ℕ) (w' : Writer D G) → slice_get ws' j ≡ Some w' → has_failed w' ≡ false) → (w : ℕ) → w < l.workers → ((workers w).waiting ≡ []) × ((workers w).left ≡ [])) where
-      low_after : (j : ℕ) (w' : Writer D G) → slice_get ws' j ≡ Some w' → j < l.streams
-      low_after j w' is = let lt = got_within ws' j w' is in let b = managed.count in omega (arith, lt, b, count)
+        (nothing_left : NamesLowest l.streams (stops_of ws' s.plv) None → (w : ℕ) → w < l.workers → ((workers w).waiting ≡ []) × ((workers w).left ≡ [])) where
+      writer_after : (j : ℕ) → j < l.streams → (w' : Writer D G) × (slice_get ws' j ≡ Some w')
+      writer_after j lt = some_at ws' j (let b = managed.count in omega (arith, lt, b, count))
 
       rests : (w : ℕ) → (s.workers w).hand ≡ None
       rests w = elim (below_or_not w l.workers) [
@@ -198,8 +201,8 @@ module _ (first : Plain) {style : Style} (v : Knows) (workers : ℕ → Worker) 
           absurd (omega (arith, own, lt, le))))
 
       -- each number waits at the opening, and each worker still accounts for its own
-      kept_at : (i : ℕ) → 1 ≤ i → i ≤ length l.calls → (w : ℕ) × (1 ≤ in_worker i (s.workers w))
-      kept_at i lo hi =
+      none_lost : NoneLost (length l.calls) s
+      none_lost i lo hi =
           let (w, waits) = k.meets.opened.waits i lo hi in
           elim (below_or_not w l.workers) [
             | inl lt ↦
@@ -228,13 +231,12 @@ module _ (first : Plain) {style : Style} (v : Knows) (workers : ℕ → Worker) 
               let lt : worker_of l.workers i < l.workers = mod-lt (i - 1) {m = l.workers} (omega (arith, some)) in
               omega (arith, own, lt, le)
 
-      pub thread_done : IsThreadDone l s ws'
-      thread_done = record {
+      thread_over : IsOver l.streams (stopped_by ws' s)
+      thread_over = record {
         rests = rests;
-        kept = kept_at;
-        flushed = λ j w' is works.
-            (let d = flushed j w' is works in
-            let lt = low_after j w' is in
+        persisted = λ j lt none.
+            (let (w', is) = writer_after j lt in
+            let d = flushed j w' is (works_at ws' s.plv j w' is none) in
             let g = manager_is j lt in
             sym (stored_is j) ∙ d.durable ∙ sym g.gathered
             ∙ gathered_by_views l K s inv some j lt (λ w. rest_unplaced (s.workers w).hand (rests w)) (own_none j lt d.own)
@@ -263,3 +265,6 @@ module _ (first : Plain) {style : Style} (v : Knows) (workers : ℕ → Worker) 
               let d = ap (λ (worker : Worker). covered_count s.plv worker.committed) (worker_is w lt) in
               let e = ap (length {A = Ticket}) (clerk_is_there w lt) in
               omega (arith, a, b, d, e)
+
+      pub thread_done : IsOver l.streams (stopped_by ws' s) × NoneLost (length l.calls) s
+      thread_done = (thread_over, none_lost)

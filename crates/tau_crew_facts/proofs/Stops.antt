@@ -1,9 +1,14 @@
 -- Behind the run of the desk each stream whose disk failed is stopped, where it is persisted.
-use Rattle.std.proofs.Common.{ℕ, zero, suc, ◌<◌, ◌≤◌, ◌≡◌, inl, inr, Bool, true, false, List, [], ◌∷◌, ◌++◌, refl, sym, ap, subst, ◌∙◌, arith, append_assoc, slice_index}
-use Rattle.std.specs.Prelude.{Option, Some, None, if◌then◌else◌}
+use Rattle.std.proofs.Common.{ℕ, zero, suc, ◌<◌, ◌≤◌, ◌≡◌, inl, inr, Bool, true, false, List, [], ◌∷◌, ◌++◌, refl, sym, ap, subst, ◌∙◌, arith, append_assoc, length, slice_index}
+use Rattle.std.specs.Prelude.{Option, Some, None, if◌then◌else◌, slice_get}
 use Rattle.std.proofs.Math.Path.{fun_ext}
 use Rattle.std.proofs.lemmas.Bool.{cases_Bool, cases_eq}
 use Rattle.std.proofs.lemmas.List.{append-nil}
+use Rattle.std.proofs.lemmas.Option.{slice_get_past}
+use Rattle.tau_base.proofs.Logic.{below_or_not, if_false, if_true}
+use Rattle.tau_disk.specs.declared.disk.Disk.{Ghosts}
+use Rattle.tau_stream.specs.declared.writer.Writer.{Writer}
+use Rattle.tau_stream.specs.Writer.{has_failed}
 use Rattle.tau_model.specs.History.{Act, Member}
 use Rattle.tau_machine.specs.Hands.{Txn}
 use Rattle.tau_machine.specs.Shard.{at}
@@ -16,6 +21,7 @@ use Rattle.tau_machine.proofs.Results.{run_theorem, goes_on_theorem}
 use Rattle.tau_occ.specs.declared.style.Style.{Style}
 use Rattle.tau_rule.specs.Holders.{LeadHeld}
 use Rattle.tau_rule.proofs.Holders.{held_more}
+use Rattle.tau_crew_facts.specs.Ends.{failed_in, stops_of}
 
 -- the state with its streams stopped where the function tells
 abbrev pub stopped_at : (ℕ → Option ℕ) → Core → Core
@@ -49,21 +55,21 @@ persisted_before f plv j upto events (suc k) m = elim (cases_Bool (f k)) [
 
 -- ---- what the function tells
 
-pub none_above : (f : ℕ → Bool) (plv : List ℕ) (k j : ℕ) → k ≤ j → stops_by f plv k j ≡ None
+none_above : (f : ℕ → Bool) (plv : List ℕ) (k j : ℕ) → k ≤ j → stops_by f plv k j ≡ None
 none_above f plv zero j le = refl
 none_above f plv (suc k) j le = elim (cases_Bool (f k)) [
   | inl failed ↦ rw failed (at_other k (Some (slice_index plv k)) (stops_by f plv k) j (λ e. omega (arith, e, le)) ∙ none_above f plv k j (omega (arith, le)))
   | inr works ↦ rw works (none_above f plv k j (omega (arith, le)))
 ]
 
-pub none_works : (f : ℕ → Bool) (plv : List ℕ) (k j : ℕ) → f j ≡ false → stops_by f plv k j ≡ None
+none_works : (f : ℕ → Bool) (plv : List ℕ) (k j : ℕ) → f j ≡ false → stops_by f plv k j ≡ None
 none_works f plv zero j e = refl
 none_works f plv (suc k) j e = elim (cases_Bool (f k)) [
   | inl failed ↦ rw failed (at_other k (Some (slice_index plv k)) (stops_by f plv k) j (λ is. (let bad : true ≡ false = sym failed ∙ ap f (sym is) ∙ e in cc bad)) ∙ none_works f plv k j e)
   | inr works ↦ rw works (none_works f plv k j e)
 ]
 
-pub some_failed : (f : ℕ → Bool) (plv : List ℕ) (k j : ℕ) → j < k → f j ≡ true → stops_by f plv k j ≡ Some (slice_index plv j)
+some_failed : (f : ℕ → Bool) (plv : List ℕ) (k j : ℕ) → j < k → f j ≡ true → stops_by f plv k j ≡ Some (slice_index plv j)
 some_failed f plv zero j lt e = absurd (omega (arith, lt))
 some_failed f plv (suc k) j lt e = elim (cases_eq j k) [
   | inl is ↦
@@ -74,6 +80,41 @@ some_failed f plv (suc k) j lt e = elim (cases_eq j k) [
     | inr works ↦ rw works (some_failed f plv k j (omega (arith, lt, other)) e)
   ]
 ]
+
+-- ---- the stops of the writers
+
+module _ {D : Type 0} {G : Ghosts D} (ws : List (Writer D G)) (plv : List ℕ) where
+  -- a stream is stopped exactly where the disk of its writer failed
+  pub stops_at : (j : ℕ) (w : Writer D G) → slice_get ws j ≡ Some w → has_failed w ≡ true → stops_of ws plv j ≡ Some (slice_index plv j)
+  stops_at j w is failed = if_true (failed_in (slice_get ws j)) (Some (slice_index plv j)) None (ap failed_in is ∙ failed)
+
+  pub goes_at : (j : ℕ) (w : Writer D G) → slice_get ws j ≡ Some w → has_failed w ≡ false → stops_of ws plv j ≡ None
+  goes_at j w is works = if_false (failed_in (slice_get ws j)) (Some (slice_index plv j)) None (ap failed_in is ∙ works)
+
+  pub works_at : (j : ℕ) (w : Writer D G) → slice_get ws j ≡ Some w → stops_of ws plv j ≡ None → has_failed w ≡ false
+  works_at j w is none = elim (cases_Bool (has_failed w)) [
+    | inl failed ↦ absurd (let bad : None ≡ Some (slice_index plv j) = sym none ∙ stops_at j w is failed in cc bad)
+    | inr works ↦ works
+  ]
+
+  none_there : (j : ℕ) → length ws ≤ j → failed_in (slice_get ws j) ≡ false
+  none_there j past = ap failed_in (slice_get_past ws j past)
+
+  pub stopped_low : (j at : ℕ) → stops_of ws plv j ≡ Some at → j < length ws
+  stopped_low j at is = elim (below_or_not j (length ws)) [
+    | inl low ↦ low
+    | inr past ↦ absurd (let bad : None ≡ Some at = sym (if_false (failed_in (slice_get ws j)) (Some (slice_index plv j)) None (none_there j past)) ∙ is in cc bad)
+  ]
+
+  -- so many streams are all of them
+  pub stops_all : (k : ℕ) → length ws ≤ k → stops_by (λ j. failed_in (slice_get ws j)) plv k ≡ stops_of ws plv
+  stops_all k all = fun_ext (λ j. elim (cases_Bool (failed_in (slice_get ws j))) [
+    | inl failed ↦ some_failed (λ i. failed_in (slice_get ws i)) plv k j (low j failed) failed ∙ sym (if_true (failed_in (slice_get ws j)) (Some (slice_index plv j)) None failed)
+    | inr works ↦ none_works (λ i. failed_in (slice_get ws i)) plv k j works ∙ sym (if_false (failed_in (slice_get ws j)) (Some (slice_index plv j)) None works)
+  ])
+    where
+      low : (j : ℕ) → failed_in (slice_get ws j) ≡ true → j < k
+      low j failed = (let lt = stopped_low j (slice_index plv j) (if_true (failed_in (slice_get ws j)) (Some (slice_index plv j)) None failed) in omega (arith, lt, all))
 
 -- ---- the events
 

@@ -1,16 +1,15 @@
 -- What a run in threads has at its end: the state that the desk gives when it closes, and what became of the writers and the sink.
-use Rattle.std.specs.Prelude.{ℕ, ◌<◌, ◌≤◌, ◌≡◌, ◌==◌, false, Option, Some, None, List, [], length, map, slice_get, slice_index}
+use Rattle.std.specs.Prelude.{ℕ, ◌<◌, ◌≡◌, ◌==◌, Bool, false, Option, Some, None, if◌then◌else◌, List, [], length, map, slice_get, slice_index}
 use Rattle.std.specs.List.{filter}
 use Rattle.tau_base.specs.Modes.{format_of}
-use Rattle.tau_base.specs.Vectors.{AtMost, covers}
+use Rattle.tau_base.specs.Vectors.{AtMost}
 use Rattle.tau_disk.specs.declared.disk.Disk.{Ghosts}
 use Rattle.tau_stream.specs.declared.writer.Writer.{Writer}
 use Rattle.tau_stream.specs.Writer.{disk_of, has_failed, IsReady}
 use Rattle.tau_outbox.specs.declared.Piece.{Piece}
 use Rattle.tau_model.specs.History.{Act, Member}
 use Rattle.tau_machine.specs.Hands.{Txn, Hand, act_in}
-use Rattle.tau_machine.specs.State.{Ticket, Core}
-use Rattle.tau_machine.specs.Accounts.{in_worker}
+use Rattle.tau_machine.specs.State.{Core}
 use Rattle.tau_machine.specs.Events.{Event, Persist}
 use Rattle.tau_machine.specs.Runs as machine
 use Rattle.tau_core.specs.Opens.{Opened, nothing}
@@ -66,7 +65,9 @@ pub record ClerkEnds (l : Load) (c : Core) (acks : List (ℕ × List ℕ)) : Typ
   pub low : AtMost seen c.plv
   pub licensed : (a : ℕ × List ℕ) → Member a acks → AtMost a.1 seen
 
--- A run in threads from the core `first` on streams that had these bytes, at whatever end, out of memory too.
+-- A run in threads from the core `first` on streams that had these bytes, at whatever end, out of memory too, as the desk leaves it:
+-- no stream is stopped yet, and what was written is told by the pieces that the managers gathered. That this is a run, as tau_run
+-- says it of the state with its stops (`CameTo`), is a law.
 pub record IsThreadEnd {D : Type 0} {G : Ghosts D} (bases : ℕ → List ℕ) (first : Plain) (style : Style) (c : Core) (ws ws' : List (Writer D G)) (acks : List (ℕ × List ℕ)) : Type 0 where
   pub closed : IsClosed first style c
   pub count : length ws ≡ first.load.streams
@@ -74,14 +75,20 @@ pub record IsThreadEnd {D : Type 0} {G : Ghosts D} (bases : ℕ → List ℕ) (f
   pub lasts : AreLasting first.load closed.events ws'
   pub clerk : ClerkEnds first.load c acks
 
--- The run went to its end: no call is in hand and none was given up; what was placed in a stream is persisted, unless its
--- disk failed; what is persisted is acknowledged; and where no disk failed no call is left.
-pub record IsThreadDone {D : Type 0} {G : Ghosts D} (l : Load) (c : Core) (ws' : List (Writer D G)) : Type 0 where
-  pub rests : (w : ℕ) → (c.workers w).hand ≡ None
-  pub kept : (k : ℕ) → 1 ≤ k → k ≤ length l.calls → (w : ℕ) × (1 ≤ in_worker k (c.workers w))
-  pub flushed : (j : ℕ) (w' : Writer D G) → slice_get ws' j ≡ Some w' → has_failed w' ≡ false → slice_index c.plv j ≡ slice_index c.ends j
-  pub told : (w : ℕ) → filter (λ (k : Ticket). covers c.plv k.lv) (c.outboxes w).pending ≡ []
-  pub done : ((j : ℕ) (w' : Writer D G) → slice_get ws' j ≡ Some w' → has_failed w' ≡ false) → (w : ℕ) → ((c.workers w).waiting ≡ []) × ((c.workers w).left ≡ [])
+-- ---- stops
+
+-- whether the disk of this writer failed
+abbrev pub failed_in : {D : Type 0} {G : Ghosts D} → Option (Writer D G) → Bool
+failed_in None = false
+failed_in (Some w) = has_failed w
+
+-- where each stream is stopped: if its writer's disk failed, at what is persisted of it
+abbrev pub stops_of : {D : Type 0} {G : Ghosts D} → List (Writer D G) → List ℕ → ℕ → Option ℕ
+stops_of ws plv j = if failed_in (slice_get ws j) then Some (slice_index plv j) else None
+
+-- the state of the desk with these stops
+abbrev pub stopped_by : {D : Type 0} {G : Ghosts D} → List (Writer D G) → Core → Core
+stopped_by ws c = record c { streams = λ j. record (c.streams j) { stop = stops_of ws c.plv j } }
 
 -- ---- anchors
 

@@ -1,5 +1,5 @@
 -- What holds of each run in threads.
-use Rattle.std.specs.Prelude.{ℕ, ◌+◌, ◌<◌, ◌≡◌, false, Some, List, [], ◌++◌, length, slice_get, slice_index, slice_index_or}
+use Rattle.std.specs.Prelude.{ℕ, ◌+◌, ◌<◌, ◌≡◌, false, Some, None, List, [], ◌++◌, length, slice_get, slice_index, slice_index_or}
 use Rattle.tau_disk.specs.declared.disk.Disk.{Ghosts}
 use Rattle.tau_stream.specs.declared.writer.Writer.{Writer}
 use Rattle.tau_stream.specs.Writer.{disk_of, durable_of, has_failed}
@@ -19,11 +19,12 @@ use Rattle.tau_rule.specs.Knows.{Knows}
 use Rattle.tau_rule.specs.Role.{Managed}
 use Rattle.tau_rule.specs.Rule.{Now}
 use Rattle.tau_crew_facts.specs.Closing.{ClerkDone, IsClosing, ManagerApart, ManagerDone, ManagerKnows, WorkerDone}
-use Rattle.tau_crew_facts.specs.Ends.{AreApart, IsLoose, IsThreadDone, IsThreadEnd}
+use Rattle.tau_crew_facts.specs.Ends.{AreApart, IsLoose, IsThreadEnd, stopped_by, stops_of}
 use Rattle.tau_crew_facts.specs.Spacing.{Flushes, IsSpacing, newest, placed_after}
 use Rattle.tau_crew_facts.specs.Telling.{IsTelling}
 use Rattle.tau_crew_facts.specs.Threads.{lasting}
-use Rattle.tau_run.specs.Keeping.{Keeps, KeepsOf, Steady}
+use Rattle.tau_run.specs.Keeping.{Keeps, KeepsOf, NoneLost, Steady}
+use Rattle.tau_run.specs.StopsLeave.{IsOver, NamesLowest}
 
 -- anchors that are placed after each flush that makes them due, as long as the stream may have one more, stand in their distance,
 -- wherever the flushes end
@@ -55,7 +56,8 @@ module _ {D : Type 0} (G : Ghosts D) where
       × (((w : ℕ) → w < first.load.workers → WorkerDone first.load w (workers w)) →
       ((j : ℕ) (w' : Writer D G) → slice_get ws' j ≡ Some w' → has_failed w' ≡ false → ManagerDone first.load v.seen workers j (managers j)) →
       ((w : ℕ) → w < first.load.workers → ClerkDone v.seen (workers w) (slice_index_or acked w [])) →
-      (((j : ℕ) (w' : Writer D G) → slice_get ws' j ≡ Some w' → has_failed w' ≡ false) → (w : ℕ) → w < first.load.workers → ((workers w).waiting ≡ []) × ((workers w).left ≡ [])) → IsThreadDone first.load c.core ws')
+      (NamesLowest first.load.streams (stops_of ws' c.core.plv) None → (w : ℕ) → w < first.load.workers → ((workers w).waiting ≡ []) × ((workers w).left ≡ [])) →
+      IsOver first.load.streams (stopped_by ws' c.core) × NoneLost (length first.load.calls) c.core)
 
   -- and that is a run of the core, by events in any order, in the style of the desk
   abbrev pub EndsAreRuns : Type 0

@@ -1,8 +1,7 @@
--- How the events of a run in threads are chosen, and which disks failed.
-use Rattle.std.specs.Prelude.{ℕ, ◌<◌, ◌≡◌, Bool, true, false, Option, Some, None, List, map, slice_get, slice_index}
+-- How the events of a run in threads are chosen.
+use Rattle.std.specs.Prelude.{ℕ, ◌<◌, Bool, true, false, None, List, map, slice_index}
 use Rattle.tau_disk.specs.declared.disk.Disk.{Ghosts}
 use Rattle.tau_stream.specs.declared.writer.Writer.{Writer}
-use Rattle.tau_stream.specs.Writer.{has_failed}
 use Rattle.tau_machine.specs.State.{Core}
 use Rattle.tau_core.specs.View.{setting_of}
 use Rattle.tau_core.specs.declared.state.Load.{Load}
@@ -27,12 +26,3 @@ in_threads style whole l opening p = LeadHeld (setting_of l) style p.events open
 -- disk since then holds at least so much, and some image no more.
 abbrev pub lasting : {D : Type 0} {G : Ghosts D} → Style → List (Writer D G) → Bool → Load → Core → Progress → Type 0
 lasting {D} {G} style ws' whole l opening p = in_threads style whole l opening p × AreLasting l p.events ws'
-
--- no disk failed
-abbrev pub NoneFailed : {D : Type 0} {G : Ghosts D} → List (Writer D G) → Type 0
-NoneFailed {D} {G} ws = (j : ℕ) (w : Writer D G) → slice_get ws j ≡ Some w → has_failed w ≡ false
-
--- the lowest stream whose disk failed
-abbrev pub IsLowestFailed : {D : Type 0} {G : Ghosts D} → List (Writer D G) → Option ℕ → Type 0
-IsLowestFailed {D} {G} ws None = NoneFailed ws
-IsLowestFailed {D} {G} ws (Some j) = ((w : Writer D G) × (slice_get ws j ≡ Some w) × (has_failed w ≡ true)) × ((i : ℕ) (w : Writer D G) → i < j → slice_get ws i ≡ Some w → has_failed w ≡ false)

@@ -1,8 +1,8 @@
--- None of those before failed.
-use Rattle.std.proofs.Common.{ℕ, ◌<◌, ◌≡◌, false}
-use Rattle.std.specs.Prelude.{Some, slice_get}
-use Rattle.tau_stream.specs.Writer.{has_failed}
+-- None of those before is stopped.
+use Rattle.std.proofs.Common.{ℕ, ◌<◌, ◌≡◌, List}
+use Rattle.std.specs.Prelude.{None}
+use Rattle.tau_crew_facts.specs.Ends.{stops_of}
 use Rattle.tau_crew.proofs.ending.lowest_failed.Given as goal
 
 abbrev pub invariant-loop-stream : goal.invariant-loop-stream
-invariant-loop-stream g l = (i : ℕ) (w : _) → i < l.stream → slice_get l.writers.items i ≡ Some w → has_failed w ≡ false
+invariant-loop-stream g l = (plv : List ℕ) (i : ℕ) → i < l.stream → stops_of l.writers.items plv i ≡ None
