@@ -18,6 +18,9 @@ pub mod ReadWords
 pub mod Spellings
 pub mod Staged
 pub mod Due
+pub mod Walking
+pub mod Steps
+pub mod Followed
 pub mod Mapped
 pub mod Ones
 pub mod Survivals

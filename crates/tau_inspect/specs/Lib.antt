@@ -17,4 +17,5 @@ pub mod RunText
 pub mod ReportRead
 pub mod Sections
 pub mod Tests
+pub mod Walks
 pub mod KnowsTaint

@@ -22,6 +22,7 @@ mod stages;
 mod taint;
 mod told;
 mod verdict;
+mod walk;
 mod words;
 
 pub use inspect::inspect_text;
