@@ -20,3 +20,12 @@ cut_lines (line ∷ rest) = if is_report_line line then Some ([], concat rest) e
 -- the same of the lines of a text
 abbrev pub cut_at_report : List ℕ → Option (List ℕ × List ℕ)
 cut_at_report text = cut_lines (lines text)
+
+-- the same of lines whose first one is passed over
+abbrev pub cut_later_lines : List (List ℕ) → Option (List ℕ × List ℕ)
+cut_later_lines [] = None
+cut_later_lines (line ∷ rest) = begun_by line (cut_lines rest)
+
+-- the same of a text that begins inside of a line
+abbrev pub cut_past_line : List ℕ → Option (List ℕ × List ℕ)
+cut_past_line text = cut_later_lines (lines text)

@@ -1,17 +1,28 @@
-use Rattle.std.proofs.Common.{◌≡◌, true, false, bytes_eq, arith, rules}
-use Rattle.std.specs.Prelude.{codes}
-use Rattle.tau_commands.proofs.Cutting.{cut_next, cut_here, cut_none}
+use Rattle.std.proofs.Common.{◌≡◌, ◌+◌, ◌∙◌, [], List, ℕ, take, ap, subst}
+use Rattle.std.specs.Prelude.{Some, None}
+use Rattle.std.proofs.lemmas.List.{take_rest}
+use Rattle.tau_commands.specs.Cut.{begun_by, cut_at_report, cut_past_line}
+use Rattle.tau_commands.proofs.Cutting.{passed_on, passed_here, passed_none, found_at}
 use Rattle.tau_commands.proofs.cut.cut_at_report.Goals as goal
 
-pub returns-then-eq : goal.returns-then-eq
-returns-then-eq c =
-    let here : bytes_eq c.first_line.result.0.now (codes "report") ≡ true = search rules in
-    cut_here c.args.text.now c.loop-rest.rest.now c.first_line.result.1.now c.first_line.result.0.now c.first_line.ensures.cut c.first_line.ensures.body c.first_line.ensures.shorter c.loop-rest.invariant here
+pub returns-in-Some-after_report : goal.returns-in-Some-after_report
+returns-in-Some-after_report c =
+    let t = c.args.text.now in
+    let next = c.loop-end.at + (c.in-Some-find.end + 1) in
+    let on = passed_on t c.loop-end.at c.in-Some-find.end c.loop-end.invariant (found_at t c.as_slice.result.now c.loop-end.at (Some c.in-Some-find.end) c.as_slice.ensures c.in-Some-find.ensures) in
+    passed_here t c.in-Some-after_report.after.now next on.1 (subst (λ (l : List ℕ). cut_at_report l ≡ Some ([], c.in-Some-after_report.after.now)) (take_rest t next) c.in-Some-after_report.ensures)
 
-pub loop-rest-preserved : goal.loop-rest-preserved
-loop-rest-preserved c =
-    let other : bytes_eq c.first_line.result.0.now (codes "report") ≡ false = search rules in
-    cut_next c.args.text.now c.loop-rest.rest.now c.first_line.result.1.now c.first_line.result.0.now c.first_line.ensures.cut c.first_line.ensures.body c.first_line.ensures.shorter c.loop-rest.invariant other
+pub loop-end-preserved : goal.loop-end-preserved
+loop-end-preserved c =
+    let t = c.args.text.now in
+    let next = c.loop-end.at + (c.in-Some-find.end + 1) in
+    let on = passed_on t c.loop-end.at c.in-Some-find.end c.loop-end.invariant (found_at t c.as_slice.result.now c.loop-end.at (Some c.in-Some-find.end) c.as_slice.ensures c.in-Some-find.ensures) in
+    record {
+      within = on.0;
+      same = on.1 ∙ ap (begun_by (take next t)) (subst (λ (l : List ℕ). cut_at_report l ≡ cut_past_line l) (take_rest t next) c.in_default-after_report.ensures);
+    }
 
 pub returns : goal.returns
-returns c = cut_none c.args.text.now c.loop-rest.rest.now (omega arith) c.loop-rest.invariant
+returns c =
+    let t = c.args.text.now in
+    passed_none t c.loop-end.at c.loop-end.invariant (found_at t c.as_slice.result.now c.loop-end.at None c.as_slice.ensures c.in_default-find.ensures)
