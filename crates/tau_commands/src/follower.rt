@@ -47,12 +47,34 @@ fn applied_line(alloc: Global, count: usize) -> Result<String, AllocError>
     format!(in alloc; "applied {count}\n")
 }
 
-// Puts this line.
-fn put_applied(alloc: Global, lines: &mut Vec<u8>, count: usize) -> Result<(), AllocError>
-    ensures { OnOk result (lines.new.items ≡ lines.old.items ++ applied_line count) }
+// The last line of applied records, and how many it tells of.
+#[derive(Drop)]
+struct Told {
+    count: usize,
+    line: String,
+}
+
+// Puts the line of so many applied records. It is made only when their number is another one than before.
+fn put_applied(
+    alloc: Global,
+    lines: &mut Vec<u8>,
+    told: &mut Told,
+    count: usize,
+) -> Result<(), AllocError>
+    requires { string_bytes told.old.line ≡ applied_line told.old.count }
+    ensures ok { OnOk result (lines.new.items ≡ lines.old.items ++ applied_line count) }
+    ensures told { string_bytes told.new.line ≡ applied_line told.new.count }
 {
-    let line = applied_line(alloc, count)?;
-    lines.extend_from_slice(line.as_bytes())
+    if told.count != count {
+        match applied_line(alloc, count) {
+            Ok(line) => {
+                told.line = line;
+                told.count = count;
+            }
+            Err(e) => return Err(e),
+        }
+    }
+    lines.extend_from_slice(told.line.as_bytes())
 }
 
 // Feeds a piece, and puts how many records are applied then.
@@ -61,8 +83,10 @@ fn feed_piece(
     follower: &mut Follower,
     piece: &Piece<'_>,
     lines: &mut Vec<u8>,
+    told: &mut Told,
 ) -> Result<(), FollowRefusal>
     requires open { IsOpen follower.old }
+    requires told { string_bytes told.old.line ≡ applied_line told.old.count }
     requires stream { piece.now.stream < width_of follower.old }
     ensures ok { (f : OneFormat) (n : ℕ) (fed : List (List ℕ)) (s : Followed) → Follows f n fed s follower.old →
         OnOk result ((t : Followed) × HasFed f (with_piece fed piece.now) s t × Follows f n (with_piece fed piece.now) t follower.new × (lines.new.items ≡ lines.old.items ++ applied_line (length t.order))) }
@@ -70,12 +94,13 @@ fn feed_piece(
         (read_now f (with_piece fed piece.now) s.order ≡ Err fault) × (lines.new.items ≡ lines.old.items) }
     ensures open { OnOk result (IsOpen follower.new) }
     ensures width { width_of follower.new ≡ width_of follower.old }
+    ensures told { string_bytes told.new.line ≡ applied_line told.new.count }
 {
     match follower.feed(piece.stream, piece.bytes) {
         Ok(()) => {}
         Err(e) => return Err(e),
     }
-    match put_applied(alloc, lines, follower.applied()) {
+    match put_applied(alloc, lines, told, follower.applied()) {
         Ok(()) => Ok(()),
         Err(_) => Err(FollowRefusal::NoMemory),
     }
@@ -97,9 +122,13 @@ fn feed_pieces(
     ensures bad { (pieces : List OnePiece) (fault : OneFault) → ArePieces streams pieces text.now → result ≡ Err (refusals.Bad fault) → IsFedBad streams pieces fault lines.new.items }
     ensures open { OnOk result (IsOpen follower.new) }
 {
+    let Ok(line) = applied_line(alloc, 0) else {
+        return Err(FollowRefusal::NoMemory);
+    };
+    let mut told = Told { count: 0, line };
     let mut at = 0;
     while let Some(piece) = piece_in(&text[at..], streams) {
-        match feed_piece(alloc, follower, &piece, lines) {
+        match feed_piece(alloc, follower, &piece, lines, &mut told) {
             Ok(()) => {}
             Err(e) => return Err(e),
         }

@@ -15,5 +15,5 @@ returns-in-Ok-put_applied-clause-ok c f n fed s follows =
       done.0,
       subst (λ (p : Piece). HasFed f (with_piece fed p) s done.0) c.piece.view_is done.1,
       subst (λ (p : Piece). Follows f n (with_piece fed p) done.0 c.feed.new.self) c.piece.view_is done.2,
-      c.in-Ok-put_applied.ensures ∙ ap (λ (k : ℕ). c.args.lines.now.items ++ applied_line k) count,
+      c.in-Ok-put_applied.ensures.ok ∙ ap (λ (k : ℕ). c.args.lines.now.items ++ applied_line k) count,
     )
