@@ -1,3 +1,5 @@
+//! Disks, sources and sinks in memory, and streams of the system.
+use crate::acts::{Act, do_acts, does};
 use std::alloc::Global;
 use std::io;
 use std::io::{ErrorKind, Read, Write};
@@ -8,9 +10,47 @@ use tau_disk::{
     WriteSink, write_durably,
 };
 
+/// What is done with a disk in memory, and what must come of it.
+#[derive(Clone, Copy)]
+enum Step {
+    Acts(Act),
+    /// A stop now leaves this of the disk.
+    Leaves(Tear, &'static [u8]),
+    /// These bytes are put at the end of the disk, which has 7 bytes, durably.
+    Lengthens(&'static [u8]),
+}
+
 /// What a stop now leaves of the disk.
 fn leaves(rt: &impl Abort, disk: &MemDisk, tear: Tear, bytes: &[u8]) -> Result<(), Fail> {
     assert_eq!(rt; disk.image(tear)?.as_slice(), bytes);
+    Ok(())
+}
+
+/// Puts bytes at the end of a disk of 7 bytes, durably.
+fn lengthen(rt: &impl Abort, disk: &mut MemDisk, bytes: &[u8]) -> Result<(), Fail> {
+    let len = disk.len()?;
+    assert!(rt; len == 7 && bytes.len() < 10);
+    write_durably(disk, 7, bytes)?;
+    Ok(())
+}
+
+fn take(rt: &impl Abort, disk: &mut MemDisk, step: &Step) -> Result<(), Fail> {
+    match step {
+        Step::Acts(act) => {
+            does(rt, disk, act);
+            Ok(())
+        }
+        Step::Leaves(tear, bytes) => leaves(rt, disk, *tear, bytes),
+        Step::Lengthens(bytes) => lengthen(rt, disk, bytes),
+    }
+}
+
+/// Goes through the steps, after which the disk has had so many calls, and all the memory that it asked for.
+fn goes(rt: &impl Abort, mut disk: MemDisk, steps: &[Step], calls: u64) -> Result<(), Fail> {
+    for step in steps {
+        take(rt, &mut disk, step)?;
+    }
+    assert!(rt; disk.calls() == calls && !disk.short());
     Ok(())
 }
 
@@ -26,69 +66,49 @@ fn unsynced(rt: &impl Abort, alloc: Global) -> Result<MemDisk, Fail> {
     Ok(disk)
 }
 
-/// Puts bytes at the end of a disk of 7 bytes, durably.
-fn lengthen(rt: &impl Abort, disk: &mut MemDisk, bytes: &[u8]) -> Result<(), Fail> {
-    let len = disk.len()?;
-    assert_eq!(rt; len, 7);
-    assert!(rt; bytes.len() < 10);
-    write_durably(disk, 7, bytes)?;
-    Ok(())
-}
+static STOPS: [Step; 6] = [
+    Step::Leaves(Tear::Old, b"abcdefg"),
+    Step::Leaves(Tear::New, b"abXYefg"),
+    Step::Leaves(Tear::Torn, b"ab\x07\x07efg"),
+    Step::Lengthens(b"hi"),
+    Step::Leaves(Tear::Old, b"abXYefghi"),
+    Step::Leaves(Tear::Torn, b"abXYefghi"),
+];
 
 #[test]
 fn images_of_a_stop(rt: HostRuntime) -> Result<(), Fail> {
-    let mut disk = unsynced(&rt, rt.alloc())?;
-    leaves(&rt, &disk, Tear::Old, b"abcdefg")?;
-    leaves(&rt, &disk, Tear::New, b"abXYefg")?;
-    leaves(&rt, &disk, Tear::Torn, b"ab\x07\x07efg")?;
-    lengthen(&rt, &mut disk, b"hi")?;
-    leaves(&rt, &disk, Tear::Old, b"abXYefghi")?;
-    leaves(&rt, &disk, Tear::Torn, b"abXYefghi")?;
-    assert_eq!(rt; disk.calls(), 7);
-    assert!(rt; !disk.short());
-    Ok(())
+    let disk = unsynced(&rt, rt.alloc())?;
+    goes(&rt, disk, &STOPS, 7)
 }
 
-/// Whether the disk takes bytes at its front.
-fn takes(rt: &impl Abort, disk: &mut MemDisk, bytes: &[u8]) -> bool {
-    assert!(rt; bytes.len() < 10);
-    disk.write_at(0, bytes).is_ok()
-}
-
-fn syncs(disk: &mut MemDisk) -> bool {
-    disk.sync().is_ok()
-}
-
-/// How long the disk is, if the call does not fail.
-fn len_of(disk: &mut MemDisk) -> Option<u64> {
-    disk.len().ok()
-}
+static LISTED: [Step; 6] = [
+    Step::Acts(Act::Len(Some(0))),
+    Step::Acts(Act::Writes(b"ab", false)),
+    Step::Leaves(Tear::New, b""),
+    Step::Acts(Act::Len(Some(0))),
+    Step::Acts(Act::Syncs(false)),
+    Step::Acts(Act::Syncs(true)),
+];
 
 #[test]
 fn listed_calls_fail(rt: HostRuntime) -> Result<(), Fail> {
-    let mut disk = MemDisk::new(rt.alloc(), &[2, 4])?;
-    assert_eq!(rt; len_of(&mut disk), Some(0));
-    assert!(rt; !takes(&rt, &mut disk, b"ab"));
-    leaves(&rt, &disk, Tear::New, b"")?;
-    assert!(rt; len_of(&mut disk).is_some());
-    assert!(rt; !syncs(&mut disk));
-    assert!(rt; syncs(&mut disk));
-    assert_eq!(rt; disk.calls(), 5);
-    assert!(rt; !disk.short());
-    Ok(())
+    let disk = MemDisk::new(rt.alloc(), &[2, 4])?;
+    goes(&rt, disk, &LISTED, 5)
 }
+
+static FROM_A_STOP: [Step; 6] = [
+    Step::Acts(Act::Writes(b"ab", true)),
+    Step::Acts(Act::Writes(b"xyz", false)),
+    Step::Leaves(Tear::Old, b""),
+    Step::Leaves(Tear::New, b"xyz"),
+    Step::Leaves(Tear::Torn, b"\x07\x07\x07"),
+    Step::Acts(Act::Len(None)),
+];
 
 #[test]
 fn all_calls_fail_from_a_stop_on(rt: HostRuntime) -> Result<(), Fail> {
-    let mut disk = MemDisk::stopping(rt.alloc(), 2, true)?;
-    assert!(rt; takes(&rt, &mut disk, b"ab"));
-    assert!(rt; !takes(&rt, &mut disk, b"xyz"));
-    leaves(&rt, &disk, Tear::Old, b"")?;
-    leaves(&rt, &disk, Tear::New, b"xyz")?;
-    leaves(&rt, &disk, Tear::Torn, b"\x07\x07\x07")?;
-    assert!(rt; len_of(&mut disk).is_none());
-    assert_eq!(rt; disk.calls(), 3);
-    Ok(())
+    let disk = MemDisk::stopping(rt.alloc(), 2, true)?;
+    goes(&rt, disk, &FROM_A_STOP, 3)
 }
 
 /// How many bytes a source gives, if the call does not fail.
@@ -97,38 +117,58 @@ fn read<S: Source>(rt: &impl Abort, source: &mut S, buf: &mut [u8]) -> Option<us
     source.read(buf).ok()
 }
 
+/// How many bytes each call of a source gives, if it does not fail, and what the bytes then are.
+fn gives<S: Source>(
+    rt: &impl Abort,
+    source: &mut S,
+    buf: &mut [u8],
+    calls: &[(Option<usize>, &[u8])],
+) {
+    for (given, bytes) in calls {
+        let had = read(rt, source, buf);
+        assert!(rt; had == *given && *buf == **bytes, "{had:?}");
+    }
+}
+
 /// How many bytes a sink takes, if the call does not fail.
 fn write<S: Sink>(rt: &impl Abort, sink: &mut S, bytes: &[u8]) -> Option<usize> {
     assert!(rt; !bytes.is_empty());
     sink.write(bytes).ok()
 }
 
+/// What each call of a sink is given, and how many bytes it takes, if it does not fail.
+fn takes<S: Sink>(rt: &impl Abort, sink: &mut S, calls: &[(&[u8], Option<usize>)]) {
+    for (bytes, taken) in calls {
+        let had = write(rt, sink, bytes);
+        assert!(rt; had == *taken, "{had:?}");
+    }
+}
+
+static READS: [(Option<usize>, &[u8]); 4] = [
+    (Some(2), b"ab"),
+    (None, b"ab"),
+    (Some(1), b"cb"),
+    (Some(0), b"cb"),
+];
+
 #[test]
 fn memory_sources(rt: HostRuntime) -> Result<(), Fail> {
     let mut source = MemSource::new(rt.alloc(), b"abc", &[2])?;
-    let mut buf = [0u8; 2];
-    assert_eq!(rt; read(&rt, &mut source, &mut buf), Some(2));
-    assert_eq!(rt; &buf, b"ab");
-    assert_eq!(rt; read(&rt, &mut source, &mut buf), None);
-    assert_eq!(rt; read(&rt, &mut source, &mut buf), Some(1));
-    assert_eq!(rt; &buf, b"cb");
-    assert_eq!(rt; read(&rt, &mut source, &mut buf), Some(0));
+    gives(&rt, &mut source, &mut [0u8; 2], &READS);
     Ok(())
 }
 
 /// The sink holds these bytes, and was given all memory that it asked for.
 fn holds(rt: &impl Abort, sink: &MemSink, bytes: &[u8]) {
-    assert_eq!(rt; sink.bytes(), bytes);
-    assert!(rt; !sink.short());
+    assert!(rt; sink.bytes() == bytes && !sink.short());
 }
+
+static WRITES: [(&[u8], Option<usize>); 3] = [(b"ab", Some(2)), (b"xy", None), (b"c", Some(1))];
 
 #[test]
 fn memory_sinks(rt: HostRuntime) -> Result<(), Fail> {
     let mut sink = MemSink::new(rt.alloc(), &[2])?;
-    let calls = [(b"ab".as_slice(), Some(2)), (b"xy", None), (b"c", Some(1))];
-    for (bytes, taken) in calls {
-        assert_eq!(rt; write(&rt, &mut sink, bytes), taken);
-    }
+    takes(&rt, &mut sink, &WRITES);
     holds(&rt, &sink, b"abc");
     Ok(())
 }
@@ -167,19 +207,20 @@ impl Write for Flaky {
     }
 }
 
+static FLAKY_READS: [(Option<usize>, &[u8]); 3] = [
+    (Some(1), &[0; 4]),
+    (None, &[0; 4]),
+    (Some(0), &[0; 4]),
+];
+
+static FLAKY_WRITES: [(&[u8], Option<usize>); 3] = [(b"ab", Some(1)), (b"b", None), (b"b", None)];
+
 #[test]
 fn streams_of_the_system_fail_in_mid_stream(rt: HostRuntime) {
     let mut source = ReadSource::new(Flaky { calls: 0 });
-    let mut buf = [0u8; 4];
-    for given in [Some(1), None, Some(0)] {
-        assert_eq!(rt; read(&rt, &mut source, &mut buf), given);
-    }
-
+    gives(&rt, &mut source, &mut [0u8; 4], &FLAKY_READS);
     let mut sink = WriteSink::new(Flaky { calls: 0 });
-    let calls = [(b"ab".as_slice(), Some(1)), (b"b", None), (b"b", None)];
-    for (bytes, taken) in calls {
-        assert_eq!(rt; write(&rt, &mut sink, bytes), taken);
-    }
+    takes(&rt, &mut sink, &FLAKY_WRITES);
 }
 
 #[test]
@@ -222,20 +263,18 @@ impl Write for Interrupted {
     }
 }
 
-#[test]
-fn an_interrupted_read_is_tried_again(rt: HostRuntime) {
-    let mut source = ReadSource::new(Interrupted { calls: 0 });
-    let mut buf = [0u8; 4];
-    for given in [Some(3), None, Some(0)] {
-        assert_eq!(rt; read(&rt, &mut source, &mut buf), given);
-    }
-}
+static READS_AGAIN: [(Option<usize>, &[u8]); 3] = [
+    (Some(3), &[0; 4]),
+    (None, &[0; 4]),
+    (Some(0), &[0; 4]),
+];
+
+static WRITES_AGAIN: [(&[u8], Option<usize>); 3] = [(b"abcd", Some(3)), (b"d", None), (b"d", None)];
 
 #[test]
-fn an_interrupted_write_is_tried_again(rt: HostRuntime) {
+fn an_interrupted_call_is_tried_again(rt: HostRuntime) {
+    let mut source = ReadSource::new(Interrupted { calls: 0 });
+    gives(&rt, &mut source, &mut [0u8; 4], &READS_AGAIN);
     let mut sink = WriteSink::new(Interrupted { calls: 0 });
-    let calls = [(b"abcd".as_slice(), Some(3)), (b"d", None), (b"d", None)];
-    for (bytes, taken) in calls {
-        assert_eq!(rt; write(&rt, &mut sink, bytes), taken);
-    }
+    takes(&rt, &mut sink, &WRITES_AGAIN);
 }

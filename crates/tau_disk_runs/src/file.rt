@@ -1,6 +1,8 @@
-use std::alloc::{Allocator, Global};
+use crate::acts::{Act, do_acts};
+use std::alloc::{Alloc, Allocator, Global};
 use std::fs::{File, Files, Metadata, OpenFile, OpenOptions};
 use std::io::{Empty, ErrorKind, Read, Seek, SeekFrom, Write};
+use std::process::Abort;
 use std::test::*;
 use std::{fs, io};
 use tau_disk::Disk;
@@ -38,23 +40,22 @@ fn goes_through_slot<R: Files + Clone + Drop>(
     Ok(bytes)
 }
 
+/// There is a file of this name with these bytes, which is removed then.
+fn had_file<R: Files + Alloc + Abort>(rt: &R, name: &str, wanted: &[u8]) -> Result<(), Fail> {
+    let bytes = fs::read(rt, name)?;
+    assert!(rt; bytes.as_slice() == wanted, "{name}");
+    fs::remove_file(rt, name)?;
+    Ok(())
+}
+
 #[test]
 fn each_slot_has_a_file_of_its_own(rt: HostRuntime) -> Result<(), Fail> {
-    let alloc = rt.alloc();
-    assert_eq!(rt; &goes_through_slot(&rt, alloc, 0)?, &[0, 5, 6]);
-    assert_eq!(rt; &goes_through_slot(&rt, alloc, 1)?, &[1, 5, 6]);
+    let first = goes_through_slot(&rt, rt.alloc(), 0)?;
+    let second = goes_through_slot(&rt, rt.alloc(), 1)?;
+    assert!(rt; first == [0, 5, 6] && second == [1, 5, 6]);
     // (both are there, each by its name)
-    assert_eq!(rt;
-        fs::read(&rt, "checkpoint-0.log")?.as_slice(),
-        [0, 5, 6].as_slice()
-    );
-    assert_eq!(rt;
-        fs::read(&rt, "checkpoint-1.log")?.as_slice(),
-        [1, 5, 6].as_slice()
-    );
-    fs::remove_file(&rt, "checkpoint-0.log")?;
-    fs::remove_file(&rt, "checkpoint-1.log")?;
-    Ok(())
+    had_file(&rt, "checkpoint-0.log", &[0, 5, 6])?;
+    had_file(&rt, "checkpoint-1.log", &[1, 5, 6])
 }
 
 /// The file of this stream, as another process has it: by an opening of its own.
@@ -67,30 +68,41 @@ fn locked_file<R: Files<File = File> + Clone + Drop>(
     Ok(file.locked(SystemLocks))
 }
 
-/// Whether the first byte is written.
-fn writes<D: Disk>(disk: &mut D, byte: u8) -> bool {
-    disk.write_at(0, &[byte]).is_ok()
-}
+// The calls of two openings of one file. It is read by the other: from there on all calls of the first one fail.
+static READ_TOGETHER: [(usize, Act); 4] = [
+    (0, Act::Len(Some(0))),
+    (1, Act::Len(Some(0))),
+    (0, Act::Writes(&[1], false)),
+    (1, Act::Writes(&[2], true)),
+];
+
+// Those of a third one, which can't read what the second one writes.
+static BESIDE_A_WRITER: [(usize, Act); 3] = [
+    (2, Act::Len(None)),
+    (2, Act::Writes(&[3], false)),
+    (1, Act::Syncs(true)),
+];
+
+// Those of the first and the third one, once the second one is gone.
+static AFTER_A_WRITER: [(usize, Act); 4] = [
+    (0, Act::Len(None)),
+    (0, Act::Syncs(false)),
+    (1, Act::Len(Some(1))),
+    (1, Act::Syncs(true)),
+];
 
 #[test]
 fn a_file_is_read_together_and_written_alone(rt: HostRuntime) -> Result<(), Fail> {
     let alloc = rt.alloc();
-    let mut first = locked_file(&rt, alloc, 8)?;
-    let mut second = locked_file(&rt, alloc, 8)?;
-    assert_eq!(rt; first.len()?, 0);
-    assert_eq!(rt; second.len()?, 0);
-    // (it is read by another: from here on all its calls fail)
-    assert!(rt; !writes(&mut first, 1));
-    assert!(rt; writes(&mut second, 2));
-    let mut third = locked_file(&rt, alloc, 8)?;
-    assert!(rt; third.len().is_err());
-    assert!(rt; !writes(&mut third, 3));
-    assert!(rt; second.sync().is_ok());
-    drop(second);
-    assert!(rt; first.len().is_err());
-    assert!(rt; first.sync().is_err());
-    assert_eq!(rt; third.len()?, 1);
-    assert!(rt; third.sync().is_ok());
+    let mut files = Vec::new(alloc);
+    files.push(locked_file(&rt, alloc, 8)?)?;
+    files.push(locked_file(&rt, alloc, 8)?)?;
+    do_acts(&rt, files.as_mut_slice(), &READ_TOGETHER);
+    files.push(locked_file(&rt, alloc, 8)?)?;
+    do_acts(&rt, files.as_mut_slice(), &BESIDE_A_WRITER);
+    assert!(rt; files.len() == 3);
+    drop(files.remove(1));
+    do_acts(&rt, files.as_mut_slice(), &AFTER_A_WRITER);
     fs::remove_file(&rt, "stream-08.log")?;
     Ok(())
 }
@@ -109,14 +121,20 @@ impl<F> FileLocks<F> for NoLocks {
     }
 }
 
+static FAILS: [(usize, Act); 3] = [
+    (0, Act::Len(None)),
+    (0, Act::Writes(&[1], false)),
+    (0, Act::Syncs(false)),
+];
+
 #[test]
 fn a_file_without_its_lock_fails(rt: HostRuntime) -> Result<(), Fail> {
     let mut disk = HostFile::of_stream(NoFolder, rt.alloc(), 7).locked(NoLocks);
     let mut bytes = [0u8; 1];
-    assert!(rt; disk.len().is_err());
     assert!(rt; disk.read_at(0, &mut bytes).is_err());
-    assert!(rt; !writes(&mut disk, 1));
-    assert!(rt; disk.sync().is_err());
+    let mut disks = Vec::new(rt.alloc());
+    disks.push(disk)?;
+    do_acts(&rt, disks.as_mut_slice(), &FAILS);
     Ok(())
 }
 
@@ -224,11 +242,16 @@ impl Files for NoFolder {
     }
 }
 
+static NO_SYNCS: [(usize, Act); 3] = [
+    (0, Act::Writes(b"abc", true)),
+    (0, Act::Syncs(false)),
+    (0, Act::Syncs(false)),
+];
+
 #[test]
 fn a_sync_without_the_directory_fails(rt: HostRuntime) -> Result<(), Fail> {
-    let mut disk = HostFile::of_stream(NoFolder, rt.alloc(), 7);
-    disk.write_at(0, b"abc")?;
-    assert!(rt; disk.sync().is_err());
-    assert!(rt; disk.sync().is_err());
+    let mut disks = Vec::new(rt.alloc());
+    disks.push(HostFile::of_stream(NoFolder, rt.alloc(), 7))?;
+    do_acts(&rt, disks.as_mut_slice(), &NO_SYNCS);
     Ok(())
 }
