@@ -1,61 +1,23 @@
 //! Runs in threads in both styles, against reports and records that were worked by hand, and a row that all workers write.
-ghost use Rattle.std.specs.Prelude.{◌≡◌, ◌≤◌, vec_len, IfOk};
-
-use crate::tests::{Way, created, run_from, told};
+use crate::tests::{REPORT, Ran, TEXT, Way, disks_of, run_text};
 use std::alloc::Global;
+use std::process::Abort;
 use std::sync::Wait;
 use std::test::*;
 use std::thread::Threads;
 use tau_base::Value;
-use tau_disk::{MemDisk, MemSink, Tear};
+use tau_disk::{MemDisk, Tear};
 use tau_occ::Style;
 use tau_proc::Reply;
 use tau_report::{Fate, RunEnd};
-use tau_stream::Writer;
-use tau_text::{Workload, parse_workload};
 
-/// So many workers in this style.
-fn way(workers: u8, style: Style) -> Way
-    ensures workers { result.workers ≡ workers }
-{
+/// So many workers in this style, from an opening without anchors.
+fn way(workers: u8, style: Style) -> Way {
     Way {
         anchors: 0,
         workers,
         style,
     }
-}
-
-/// A run on two new streams: how it ended, what it told, and its streams.
-#[derive(Drop)]
-struct Ran {
-    end: RunEnd,
-    text: Vec<u8>,
-    writers: Vec<Writer<MemDisk>>,
-}
-
-/// Runs this text on two new streams.
-fn run_text<R: Threads + Wait + Sync>(
-    rt: &R,
-    alloc: Global,
-    text: &[u8],
-    way: Way,
-) -> Result<Ran, Fail>
-    requires some { 1 ≤ way.workers }
-    requires few { way.workers ≤ 16 }
-    ensures { IfOk result (λ ran. vec_len ran.writers ≡ 2) }
-{
-    let load = match parse_workload(alloc, text) {
-        Ok(load) => load,
-        Err(_) => return Err("the text".into()),
-    };
-    let mut writers = match created(alloc, &load) {
-        Ok(writers) => writers,
-        Err(fail) => return Err(fail),
-    };
-    let mut sink = MemSink::new(alloc, &[])?;
-    let end = run_from(rt, alloc, &load, way, &mut writers, &mut sink)?;
-    let text = told(alloc, &load, &end, &sink)?;
-    Ok(Ran { end, text, writers })
 }
 
 const TRANSFERS: &[u8] =
@@ -65,43 +27,66 @@ const TRANSFERS: &[u8] =
 const TRANSFERRED: &[u8] =
     b"ack 1 181,0\nack 2 221,0\nack 3 288,0\nack 4 288,0\nack 5 288,0\nreply 1 none\nreply 2 none\nreply 3 int 70\nreply 4 refused 2\nreply 5 int 80\norder 1\norder 2\norder 3\norder 4\norder 5\nrow acct 1 int 70\nrow acct 2 int 80\nend 0\n";
 
-// Calls that read, write, refuse and only read, one after another.
+/// The style, the text, and what one worker tells of it.
+static REPORTS: [(Style, &[u8], &[u8]); 4] = [
+    (Style::Locking, TEXT, REPORT),
+    (Style::Optimistic, TEXT, REPORT),
+    // Calls that read, write, refuse and only read, one after another.
+    (Style::Locking, TRANSFERS, TRANSFERRED),
+    (Style::Optimistic, TRANSFERS, TRANSFERRED),
+];
+
+fn tells<R: Threads + Wait + Sync + Abort>(
+    rt: &R,
+    alloc: Global,
+    style: Style,
+    text: &[u8],
+    wanted: &[u8],
+) -> Result<(), Fail> {
+    let ran = run_text(rt, alloc, text, way(1, style))?;
+    assert!(rt; ran.text.as_slice() == wanted, "{style:?}");
+    Ok(())
+}
+
 #[test]
-fn transfers_in_either_style(rt: HostRuntime) -> Result<(), Fail> {
-    let alloc = rt.alloc();
-    for style in [Style::Locking, Style::Optimistic] {
-        let ran = run_text(&rt, alloc, TRANSFERS, way(1, style))?;
-        assert!(rt; ran.text.as_slice() == TRANSFERRED, "{style:?}");
+fn reports_in_either_style(rt: HostRuntime) -> Result<(), Fail> {
+    for (style, text, wanted) in &REPORTS {
+        tells(&rt, rt.alloc(), *style, text, wanted)?;
     }
     Ok(())
 }
 
-/// What both disks hold.
-fn images(alloc: Global, mut writers: Vec<Writer<MemDisk>>) -> Result<(Vec<u8>, Vec<u8>), Fail>
-    requires { vec_len writers ≡ 2 }
-{
-    let second = writers.pop().ok_or("two streams")?;
-    let first = writers.pop().ok_or("two streams")?;
-    Ok((
-        first.into_disk().image(Tear::New)?,
-        second.into_disk().image(Tear::New)?,
-    ))
-}
-
 // Two puts that write apart: each record stands at 13 to 53 of its stream with the vector 0,0, however the threads go. An image of
 // 53 bytes of content in two blocks has 80 bytes.
+static PUTS: [&[u8]; 2] = [
+    b"TAURUS-LOG-1\x00\x02\x00\x00\x01\x00\x00\x00\x0d\x04\x00\x00\x00\x0dtable a\n\x01\x00\x00\x00\x28\x01\x00\x00\x00\x28\x00\x00\x00\x00\x00\x00\x00\x01\x00\x00\x00\x00\x00\x00\x00\x01\x00\x00\x00\x00\x00\x00\x00\x00\x00\x01\x01\x00\x00\x00\x00\x00\x00\x00\x05\x00",
+    b"TAURUS-LOG-1\x00\x02\x00\x01\x01\x00\x00\x00\x0d\x04\x00\x00\x00\x0dtable a\n\x01\x00\x00\x00\x28\x01\x00\x00\x00\x28\x00\x00\x00\x00\x00\x00\x00\x02\x00\x00\x00\x00\x00\x00\x00\x01\x00\x00\x00\x00\x00\x00\x00\x00\x00\x02\x01\x00\x00\x00\x00\x00\x00\x00\x06\x00",
+];
+
+fn holds(rt: &impl Abort, disk: &MemDisk, wanted: &[u8]) -> Result<(), Fail> {
+    let image = disk.image(Tear::New)?;
+    assert!(rt; image.len() == 80 && image.as_slice() == wanted);
+    Ok(())
+}
+
+fn put_apart<R: Threads + Wait + Sync + Abort>(
+    rt: &R,
+    alloc: Global,
+    style: Style,
+) -> Result<(), Fail> {
+    let ran = run_text(rt, alloc, b"table a\nput a 1 5\nput a 2 6\n", way(2, style))?;
+    let disks = disks_of(alloc, ran.writers)?;
+    assert_eq!(rt; disks.len(), 2);
+    for (disk, wanted) in disks.iter().zip(PUTS.iter()) {
+        holds(rt, disk, wanted)?;
+    }
+    Ok(())
+}
+
 #[test]
 fn puts_apart_in_either_style(rt: HostRuntime) -> Result<(), Fail> {
-    let alloc = rt.alloc();
-    let text = b"table a\nput a 1 5\nput a 2 6\n";
-    let locking = run_text(&rt, alloc, text, way(2, Style::Locking))?;
-    let optimistic = run_text(&rt, alloc, text, way(2, Style::Optimistic))?;
-    let wanted = images(alloc, locking.writers)?;
-    let had = images(alloc, optimistic.writers)?;
-    assert_eq!(rt; (wanted.0.len(), wanted.1.len()), (80, 80));
-    assert!(rt; had.0.as_slice() == wanted.0.as_slice());
-    assert!(rt; had.1.as_slice() == wanted.1.as_slice());
-    Ok(())
+    put_apart(&rt, rt.alloc(), Style::Locking)?;
+    put_apart(&rt, rt.alloc(), Style::Optimistic)
 }
 
 /// `count` calls that add 1 to one row.
@@ -130,16 +115,33 @@ fn first_out_of_order(end: &RunEnd) -> Option<usize> {
     None
 }
 
-// All workers add to one row: whatever peeks differ, the calls reply the numbers from 1 in the order of the history.
+/// Whether the run did its work, and its two hundred calls replied the numbers from 1 in the order of the history.
+fn counts_up(ran: &Ran) -> bool {
+    ran.end.disk == None
+        && !ran.end.sink_failed
+        && ran.end.report.acks.len() == 200
+        && ran.end.report.order.len() == 200
+        && first_out_of_order(&ran.end) == None
+}
+
+/// How many workers add in which style.
+static CREWS: [(u8, Style); 6] = [
+    (2, Style::Locking),
+    (2, Style::Optimistic),
+    (4, Style::Locking),
+    (4, Style::Optimistic),
+    (16, Style::Locking),
+    (16, Style::Optimistic),
+];
+
+// All workers add to one row: whatever peeks differ, each call is acknowledged, and they reply the numbers from 1 in the order of the
+// history.
 #[test]
 fn a_row_that_all_write(rt: HostRuntime) -> Result<(), Fail> {
-    let alloc = rt.alloc();
-    let text = adds(alloc, 200)?;
-    for style in [Style::Locking, Style::Optimistic] {
-        let ran = run_text(&rt, alloc, text.as_bytes(), way(4, style))?;
-        assert!(rt; ran.end.disk == None && !ran.end.sink_failed);
-        assert_eq!(rt; ran.end.report.order.len(), 200);
-        assert_eq!(rt; first_out_of_order(&ran.end), None, "{style:?}");
+    let text = adds(rt.alloc(), 200)?;
+    for (workers, style) in &CREWS {
+        let ran = run_text(&rt, rt.alloc(), text.as_bytes(), way(*workers, *style))?;
+        assert!(rt; counts_up(&ran), "{workers} workers {style:?}");
     }
     Ok(())
 }

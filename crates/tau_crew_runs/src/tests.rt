@@ -1,13 +1,15 @@
+//! Runs in threads on two new streams, without and from an opening, and the anchors that they place.
 ghost use Rattle.std.specs.Prelude.{ℕ, ◌≡◌, ◌≤◌, ◌<◌, [], ◌∷◌, length, vec_len, IfOk, OnOk};
 ghost use Rattle.tau_base.specs.declared.format.Format.TheVariants.{One};
 ghost use Rattle.tau_base.specs.declared.limits.TheConstants.{MAX_CATALOGUE, MAX_LSN};
 ghost use Rattle.tau_text.specs.Canonical.{declarations_text};
-ghost use Rattle.tau_text.specs.Kept.{AreCalls};
+ghost use Rattle.tau_text.specs.Kept.{AreCalls, IsRunnable};
 ghost use Rattle.tau_run.specs.Start.{catalogue_of};
 ghost use Rattle.tau_run.specs.Writers.{AreNew};
 
 use arrayvec::ArrayVec;
 use std::alloc::Global;
+use std::process::Abort;
 use std::sync::Wait;
 use std::test::*;
 use std::thread::Threads;
@@ -23,10 +25,10 @@ use tau_scan::{count_anchors, scan};
 use tau_stream::Writer;
 use tau_text::{Workload, parse_workload, print_declarations};
 
-const TEXT: &[u8] = b"table a\nput a 1 5\n";
+pub(crate) const TEXT: &[u8] = b"table a\nput a 1 5\n";
 
 // The record of the call takes 40 bytes after the catalogue's 13.
-const REPORT: &[u8] = b"ack 1 53,0\nreply 1 none\norder 1\nrow a 1 int 5\nend 0\n";
+pub(crate) const REPORT: &[u8] = b"ack 1 53,0\nreply 1 none\norder 1\nrow a 1 int 5\nend 0\n";
 
 /// Two new disks.
 fn two_disks(alloc: Global) -> Result<Vec<MemDisk>, Fail>
@@ -39,7 +41,7 @@ fn two_disks(alloc: Global) -> Result<Vec<MemDisk>, Fail>
 }
 
 /// Two streams, just created for the workload.
-pub(crate) fn created(alloc: Global, load: &Workload) -> Result<Vec<Writer<MemDisk>>, Fail>
+fn created(alloc: Global, load: &Workload) -> Result<Vec<Writer<MemDisk>>, Fail>
     ensures count { IfOk result (λ writers. vec_len writers ≡ 2) }
     ensures text { OnOk result (length (declarations_text load.now.declarations) ≤ MAX_CATALOGUE) }
     ensures fresh { IfOk result (λ writers. AreNew One (λ j. catalogue_of load.now) writers.items) }
@@ -89,19 +91,8 @@ pub(crate) struct Way {
     pub style: Style,
 }
 
-/// One worker in the style Locking.
-fn alone(anchors: u32) -> Way
-    ensures { result ≡ record { anchors = anchors; workers = 1; style = Style.Locking } }
-{
-    Way {
-        anchors,
-        workers: 1,
-        style: Style::Locking,
-    }
-}
-
 /// Runs the workload on two streams that were just created for it.
-pub(crate) fn run_from<R: Threads + Wait + Sync>(
+fn run_from<R: Threads + Wait + Sync>(
     rt: &R,
     alloc: Global,
     load: &Workload,
@@ -136,32 +127,71 @@ pub(crate) fn run_from<R: Threads + Wait + Sync>(
 }
 
 /// All that was told.
-pub(crate) fn told(
-    alloc: Global,
-    load: &Workload,
-    end: &RunEnd,
-    sink: &MemSink,
-) -> Result<Vec<u8>, Fail> {
+fn told(alloc: Global, load: &Workload, end: &RunEnd, sink: &MemSink) -> Result<Vec<u8>, Fail> {
     let rest = report_text(alloc, &load.declarations, &end.report, end.disk)?;
     let mut text = sink.bytes().to_vec(alloc)?;
     text.extend_from_slice(&rest)?;
     Ok(text)
 }
 
-#[test]
-fn on_new_streams(rt: HostRuntime) -> Result<(), Fail> {
-    let alloc = rt.alloc();
-    let load = match parse_workload(alloc, TEXT) {
+/// A run on two new streams: how it ended, what it told, and its streams.
+#[derive(Drop)]
+pub(crate) struct Ran {
+    pub end: RunEnd,
+    pub text: Vec<u8>,
+    pub writers: Vec<Writer<MemDisk>>,
+}
+
+fn load_of(alloc: Global, text: &[u8]) -> Result<Workload, Fail>
+    ensures { IfOk result IsRunnable }
+{
+    match parse_workload(alloc, text) {
+        Ok(load) => Ok(load),
+        Err(_) => Err("the text".into()),
+    }
+}
+
+/// Runs this text on two new streams, which it opens with.
+pub(crate) fn run_text<R: Threads + Wait + Sync>(
+    rt: &R,
+    alloc: Global,
+    text: &[u8],
+    way: Way,
+) -> Result<Ran, Fail> {
+    if way.workers < 1 || way.workers > 16 {
+        return Err("no such crew".into());
+    }
+    let load = match load_of(alloc, text) {
         Ok(load) => load,
-        Err(_) => panic!(rt; "the text"),
+        Err(fail) => return Err(fail),
     };
     let mut writers = match created(alloc, &load) {
         Ok(writers) => writers,
         Err(fail) => return Err(fail),
     };
     let mut sink = MemSink::new(alloc, &[])?;
-    let end = run_threads(
-        &rt,
+    let end = run_from(rt, alloc, &load, way, &mut writers, &mut sink)?;
+    let text = told(alloc, &load, &end, &sink)?;
+    Ok(Ran { end, text, writers })
+}
+
+/// What one worker tells of this text on two new streams.
+fn told_anew<R: Threads + Wait + Sync>(
+    rt: &R,
+    alloc: Global,
+    text: &[u8],
+) -> Result<Vec<u8>, Fail> {
+    let load = match load_of(alloc, text) {
+        Ok(load) => load,
+        Err(fail) => return Err(fail),
+    };
+    let mut writers = match created(alloc, &load) {
+        Ok(writers) => writers,
+        Err(fail) => return Err(fail),
+    };
+    let mut sink = MemSink::new(alloc, &[])?;
+    match run_threads(
+        rt,
         alloc,
         &load,
         1,
@@ -169,25 +199,16 @@ fn on_new_streams(rt: HostRuntime) -> Result<(), Fail> {
         &mut writers,
         &mut sink,
         &Quiet,
-    )?;
-    assert!(rt; told(alloc, &load, &end, &sink)?.as_slice() == REPORT);
-    Ok(())
+    ) {
+        Ok(end) => told(alloc, &load, &end, &sink),
+        Err(_) => Err("out of memory".into()),
+    }
 }
 
 #[test]
-fn from_an_opening(rt: HostRuntime) -> Result<(), Fail> {
-    let alloc = rt.alloc();
-    let load = match parse_workload(alloc, TEXT) {
-        Ok(load) => load,
-        Err(_) => panic!(rt; "the text"),
-    };
-    let mut writers = match created(alloc, &load) {
-        Ok(writers) => writers,
-        Err(fail) => return Err(fail),
-    };
-    let mut sink = MemSink::new(alloc, &[])?;
-    let end = run_from(&rt, alloc, &load, alone(0), &mut writers, &mut sink)?;
-    assert!(rt; told(alloc, &load, &end, &sink)?.as_slice() == REPORT);
+fn on_new_streams(rt: HostRuntime) -> Result<(), Fail> {
+    let text = told_anew(&rt, rt.alloc(), TEXT)?;
+    assert!(rt; text.as_slice() == REPORT);
     Ok(())
 }
 
@@ -207,15 +228,25 @@ fn long_text(alloc: Global) -> Result<String, Fail> {
     Ok(text)
 }
 
-/// How many anchors the records of the first of two streams have.
-fn anchors_of(alloc: Global, mut writers: Vec<Writer<MemDisk>>) -> Result<usize, Fail>
-    requires { vec_len writers ≡ 2 }
-{
+/// Both disks.
+pub(crate) fn disks_of(
+    alloc: Global,
+    mut writers: Vec<Writer<MemDisk>>,
+) -> Result<Vec<MemDisk>, Fail> {
     let second = writers.pop().ok_or("two streams")?;
     let first = writers.pop().ok_or("two streams")?;
     let mut disks = Vec::new(alloc);
     disks.push(first.into_disk())?;
     disks.push(second.into_disk())?;
+    Ok(disks)
+}
+
+/// How many anchors the records of the first of two streams have.
+fn anchors_of(alloc: Global, writers: Vec<Writer<MemDisk>>) -> Result<usize, Fail> {
+    let mut disks = disks_of(alloc, writers)?;
+    if disks.len() != 2 {
+        return Err("two streams".into());
+    }
     let log = match scan(alloc, disks.as_mut_slice(), None) {
         Ok(log) => log,
         Err(_) => return Err("the log".into()),
@@ -224,30 +255,31 @@ fn anchors_of(alloc: Global, mut writers: Vec<Writer<MemDisk>>) -> Result<usize,
     Ok(count_anchors(records.as_slice()))
 }
 
+/// One worker, whose first stream is said to have so many anchors, gives it so many more.
+fn gives_anchors<R: Threads + Wait + Sync + Abort>(
+    rt: &R,
+    alloc: Global,
+    text: &[u8],
+    before: u32,
+    wanted: usize,
+) -> Result<(), Fail> {
+    let way = Way {
+        anchors: before,
+        workers: 1,
+        style: Style::Locking,
+    };
+    let ran = run_text(rt, alloc, text, way)?;
+    assert!(rt; ran.end.disk == None && !ran.end.sink_failed && ran.end.report.acks.len() == 15);
+    let anchors = anchors_of(alloc, ran.writers)?;
+    assert_eq!(rt; anchors, wanted, "{before} anchors before");
+    Ok(())
+}
+
 // The records of the first stream take 74,235 to 74,347 bytes: from 65,536 on an anchor is due, and a second one is not before
 // 131,072. A stream that has 2^32 - 1 of them gets none, and the run goes to its end.
 #[test]
 fn a_full_stream_gets_no_anchor(rt: HostRuntime) -> Result<(), Fail> {
-    let alloc = rt.alloc();
-    let text = long_text(alloc)?;
-    let load = match parse_workload(alloc, text.as_bytes()) {
-        Ok(load) => load,
-        Err(_) => panic!(rt; "the text"),
-    };
-    for (before, wanted) in [(0, 1), (4_294_967_295, 0)] {
-        let mut writers = match created(alloc, &load) {
-            Ok(writers) => writers,
-            Err(fail) => return Err(fail),
-        };
-        let mut sink = MemSink::new(alloc, &[])?;
-        let end = run_from(&rt, alloc, &load, alone(before), &mut writers, &mut sink)?;
-        assert!(rt; end.disk == None && !end.sink_failed);
-        assert_eq!(rt; end.report.acks.len(), 15);
-        assert_eq!(rt;
-            anchors_of(alloc, writers)?,
-            wanted,
-            "{before} anchors before"
-        );
-    }
-    Ok(())
+    let text = long_text(rt.alloc())?;
+    gives_anchors(&rt, rt.alloc(), text.as_bytes(), 0, 1)?;
+    gives_anchors(&rt, rt.alloc(), text.as_bytes(), 4_294_967_295, 0)
 }
