@@ -1,4 +1,4 @@
-//! Runs of the core, event by event, against the worked runs.
+//! Runs of the core, event by event: what is done with one, and what is then so.
 ghost use Rattle.std.specs.Prelude.{◌≡◌, ◌<◌, ◌≤◌, IfOk, IsTrue};
 ghost use Rattle.tau_base.specs.Modes.{format_of, most_streams};
 ghost use Rattle.tau_base.specs.declared.limits.TheConstants.{MAX_WORKERS};
@@ -16,11 +16,10 @@ use tau_base::{Key, LogMode, Lv, MAX_CATALOGUE, Mode, SHARDS, Value, format_of, 
 use tau_core::{Acted, Core, Event, Gathering, Opening, Outcome, Phase};
 use tau_model::{Spot, Tables};
 use tau_text::{parse_workload, print_declarations};
-use tau_txn::ActionKind;
 
 /// What an event answered, in plain numbers: a row is a number or absent, a vector has zeros beyond its end.
 #[derive(Clone, Copy, Debug, PartialEq, Eq)]
-enum Said {
+pub(crate) enum Said {
     Went,
     Granted(Option<i64>),
     Busy(u8),
@@ -34,7 +33,7 @@ enum Said {
 
 /// What the call of one event told, in plain numbers.
 #[derive(Clone, Copy, Debug, PartialEq, Eq)]
-enum Told {
+pub(crate) enum Told {
     Acted(Acted),
     Gathered(Gathering),
     Reached(Option<Phase>),
@@ -348,13 +347,33 @@ impl Run {
     }
 }
 
+/// The text of a run.
+#[derive(Clone, Copy)]
+pub(crate) enum Text {
+    Of(&'static str),
+    /// So many calls that write one row.
+    Puts(u16),
+}
+
+/// How a run begins.
+#[derive(Clone, Copy)]
+pub(crate) enum Start {
+    /// With nothing, in this mode, on so many streams, with so many workers.
+    New(LogMode, u8, u8),
+    /// With the opening.
+    Opened,
+}
+
+/// A run: in words what it shows, its text, how it begins, and what it goes through.
+pub(crate) type Play = (&'static str, Text, Start, &'static [Row]);
+
 /// What is done with a run, and what is then so.
 #[derive(Clone, Copy)]
-enum Row<'a> {
+pub(crate) enum Row {
     /// These events return so.
-    Does(&'a [(Event, Said)]),
+    Does(&'static [(Event, Said)]),
     /// The calls of these events tell so.
-    Tells(&'a [(Event, Told)]),
+    Tells(&'static [(Event, Told)]),
     /// The event returns so, so many times.
     DoesAlways(u16, Event, Said),
     /// A put of worker 0 is persisted, and its entry is removed.
@@ -383,10 +402,16 @@ enum Row<'a> {
     Floor(u8, [u64; 3]),
     /// The streams' ends.
     Ends([u64; 3]),
-    /// The bytes that are handed out of stream 0.
-    Hands(&'a [u8]),
+    /// The bytes that are handed out of stream 0, as hexadecimal digits.
+    Hands(&'static str),
     /// The same, in the place of those of stream 1.
-    HandsInstead(&'a [u8]),
+    HandsInstead(&'static str),
+    /// The lock that worker 0 takes next: the number of its call, the row, and whether it is for writing.
+    Asks(Option<(u64, i64, bool)>),
+    /// What a retry of worker 0 tells.
+    Retries(Said),
+    /// What is persisted.
+    Persisted([u64; 3]),
 }
 
 /// A text of so many calls that write one row.
@@ -397,6 +422,14 @@ fn puts(alloc: Global, calls: u16) -> Result<Vec<u8>, Fail> {
         text.extend_from_slice(b"put a 1 5\n")?;
     }
     Ok(text)
+}
+
+/// The text of a run.
+fn text_of(alloc: Global, text: &Text) -> Result<Vec<u8>, Fail> {
+    match text {
+        Text::Of(text) => Ok(Vec::from_slice(alloc, text.as_bytes())?),
+        Text::Puts(calls) => puts(alloc, *calls),
+    }
 }
 
 /// The number of the row of the first table.
@@ -447,32 +480,32 @@ fn spot(core: &Core, i: usize) -> Option<Spot> {
 }
 
 /// These events return so.
-fn does(rt: &impl Abort, run: &mut Run, rows: &[(Event, Said)]) {
+fn does(rt: &impl Abort, run: &mut Run, name: &str, rows: &[(Event, Said)]) {
     for row in rows {
         let said = run.acts(row.0);
-        assert!(rt; said == Some(row.1), "{said:?}");
+        assert!(rt; said == Some(row.1), "{name}: {said:?}");
     }
 }
 
 /// The calls of these events tell so.
-fn all_tell(rt: &impl Abort, run: &mut Run, rows: &[(Event, Told)]) {
+fn all_tell(rt: &impl Abort, run: &mut Run, name: &str, rows: &[(Event, Told)]) {
     for row in rows {
         let told = run.tells(row.0);
-        assert!(rt; told == Some(row.1), "{told:?}");
+        assert!(rt; told == Some(row.1), "{name}: {told:?}");
     }
 }
 
 /// The event returns so, so many times.
-fn does_always(rt: &impl Abort, run: &mut Run, times: u16, event: Event, said: Said) {
+fn does_always(rt: &impl Abort, run: &mut Run, name: &str, times: u16, row: (Event, Said)) {
     for _time in 0..times {
-        does(rt, run, &[(event, said)]);
+        does(rt, run, name, &[row]);
     }
 }
 
 /// The call in hand, which has its locks, goes on to its end.
-fn finishes(rt: &impl Abort, run: &mut Run, worker: u8) {
+fn finishes(rt: &impl Abort, run: &mut Run, name: &str, worker: u8) {
     let Some(Said::Placed(_)) = run.acts(Event::Commit { worker }) else {
-        assert!(rt; false);
+        assert!(rt; false, "{name}");
         return;
     };
     let rows = [
@@ -480,19 +513,24 @@ fn finishes(rt: &impl Abort, run: &mut Run, worker: u8) {
         (Event::Free { worker }, Said::Went),
         (Event::Done { worker }, Said::Went),
     ];
-    does(rt, run, &rows);
+    does(rt, run, name, &rows);
 }
 
 /// So many calls of the worker find the row as it was written and run to their ends.
-fn all_run(rt: &impl Abort, run: &mut Run, worker: u8, calls: u16) {
+fn all_run(rt: &impl Abort, run: &mut Run, name: &str, worker: u8, calls: u16) {
     for _call in 0..calls {
-        does(rt, run, &[(Event::Lock { worker }, Said::Granted(Some(5)))]);
-        finishes(rt, run, worker);
+        does(
+            rt,
+            run,
+            name,
+            &[(Event::Lock { worker }, Said::Granted(Some(5)))],
+        );
+        finishes(rt, run, name, worker);
     }
 }
 
 /// A put of worker 0 is persisted, and its entry is removed.
-fn removes(rt: &impl Abort, run: &mut Run) {
+fn removes(rt: &impl Abort, run: &mut Run, name: &str) {
     let rows = [
         (Event::Lock { worker: 0 }, Said::Granted(None)),
         (Event::Commit { worker: 0 }, Said::Placed(13)),
@@ -509,32 +547,67 @@ fn removes(rt: &impl Abort, run: &mut Run) {
         ),
         (Event::Drop { shard: 1 }, Said::Went),
     ];
-    does(rt, run, &rows);
+    does(rt, run, name, &rows);
 }
 
 /// A call that was left over goes back to this worker.
-fn resumes(rt: &impl Abort, run: &mut Run, worker: Option<u8>) {
-    assert_eq!(rt; run.resumed(), worker);
+fn resumes(rt: &impl Abort, run: &mut Run, name: &str, worker: Option<u8>) {
+    assert!(rt; run.resumed() == worker, "{name}");
 }
 
 /// Calls that were left over go back to workers 1 and 2 in turn, so many times, and run to their ends.
-fn all_go_back(rt: &impl Abort, run: &mut Run, times: u16) {
+fn all_go_back(rt: &impl Abort, run: &mut Run, name: &str, times: u16) {
     for _time in 0..times {
-        resumes(rt, run, Some(1));
-        all_run(rt, run, 1, 1);
-        resumes(rt, run, Some(2));
-        all_run(rt, run, 2, 1);
+        resumes(rt, run, name, Some(1));
+        all_run(rt, run, name, 1, 1);
+        resumes(rt, run, name, Some(2));
+        all_run(rt, run, name, 2, 1);
     }
 }
 
+/// Whether bytes are those of these hexadecimal digits, between which there may be spaces.
+fn are_spelled(bytes: &[u8], digits: &str) -> bool {
+    let mut at = 0usize;
+    let mut high: Option<u8> = None;
+    for c in digits.chars() {
+        if let Some(digit) = c.to_digit(16) {
+            let low = digit as u8;
+            match high {
+                None => high = Some(low),
+                Some(first) => {
+                    if bytes.get(at) != Some(&((first << 4) | low)) {
+                        return false;
+                    }
+                    at = at.wrapping_add(1);
+                    high = None;
+                }
+            }
+        }
+    }
+    at == bytes.len()
+}
+
 /// The bytes that are handed out of stream 0.
-fn hands(rt: &impl Abort, run: &mut Run, bytes: &[u8]) {
-    assert_eq!(rt; run.body_of(rt).as_slice(), bytes);
+fn hands(rt: &impl Abort, run: &mut Run, name: &str, digits: &str) {
+    assert!(rt; are_spelled(run.body_of(rt).as_slice(), digits), "{name}");
 }
 
 /// The same, in the place of those of stream 1.
-fn hands_instead(rt: &impl Abort, run: &mut Run, bytes: &[u8]) {
-    assert_eq!(rt; run.body_instead(rt).as_slice(), bytes);
+fn hands_instead(rt: &impl Abort, run: &mut Run, name: &str, digits: &str) {
+    assert!(rt;
+        are_spelled(run.body_instead(rt).as_slice(), digits),
+        "{name}"
+    );
+}
+
+/// What a retry of worker 0 tells.
+fn retries(rt: &impl Abort, run: &mut Run, name: &str, said: Said) {
+    assert!(rt; run.retried(rt) == said, "{name}");
+}
+
+/// The lock that worker 0 takes next.
+fn asks(rt: &impl Abort, run: &Run, name: &str, lock: Option<(u64, i64, bool)>) {
+    assert!(rt; run.lock_asked(rt) == lock, "{name}");
 }
 
 /// The shard's floor.
@@ -543,860 +616,56 @@ fn floor(rt: &impl Abort, core: &Core, shard: u8) -> [u64; 3] {
     positions(&core.floor(shard))
 }
 
-/// The core is as the row says. Only rows that change nothing come here.
-fn stands(rt: &impl Abort, core: &Core, look: Row<'_>) {
+/// Whether the core is as the row says. Only rows that change nothing come here.
+fn is_so(rt: &impl Abort, core: &Core, look: Row) -> bool {
     match look {
-        Row::Keeps(i, number, dep, lv) => assert_eq!(rt; kept(core, i), (number, dep, lv)),
-        Row::Reaches(i, stream, both) => assert_eq!(rt; positions_at(core, i, stream), both),
-        Row::Numbers(i, number) => assert_eq!(rt; kept(core, i).0, number),
-        Row::Stands(i, want) => assert_eq!(rt; spot(core, i), want),
-        Row::Commits(calls) => assert_eq!(rt; core.committed().len(), calls),
-        Row::Finds(at, number) => assert_eq!(rt; number_at(core, at), number),
-        Row::Floor(shard, lv) => assert_eq!(rt; floor(rt, core, shard), lv),
-        Row::Ends(lv) => assert_eq!(rt; positions(&core.ends()), lv),
-        _ => assert!(rt; false),
+        Row::Keeps(i, number, dep, lv) => kept(core, i) == (number, dep, lv),
+        Row::Reaches(i, stream, both) => positions_at(core, i, stream) == both,
+        Row::Numbers(i, number) => kept(core, i).0 == number,
+        Row::Stands(i, want) => spot(core, i) == want,
+        Row::Commits(calls) => core.committed().len() == calls,
+        Row::Finds(at, number) => number_at(core, at) == number,
+        Row::Floor(shard, lv) => floor(rt, core, shard) == lv,
+        Row::Ends(lv) => positions(&core.ends()) == lv,
+        Row::Persisted(lv) => positions(&core.plv()) == lv,
+        _ => false,
     }
 }
 
 /// Does what the row says, and sees that it is so.
-fn play(rt: &impl Abort, run: &mut Run, row: Row<'_>) {
+fn play(rt: &impl Abort, run: &mut Run, name: &str, row: Row) {
     match row {
-        Row::Does(rows) => does(rt, run, rows),
-        Row::Tells(rows) => all_tell(rt, run, rows),
-        Row::DoesAlways(times, event, said) => does_always(rt, run, times, event, said),
-        Row::Removes => removes(rt, run),
-        Row::Resumes(worker) => resumes(rt, run, worker),
-        Row::Finishes(worker) => finishes(rt, run, worker),
-        Row::Runs(worker, calls) => all_run(rt, run, worker, calls),
-        Row::GoBack(times) => all_go_back(rt, run, times),
-        Row::Hands(bytes) => hands(rt, run, bytes),
-        Row::HandsInstead(bytes) => hands_instead(rt, run, bytes),
-        other => stands(rt, &run.core, other),
+        Row::Does(rows) => does(rt, run, name, rows),
+        Row::Tells(rows) => all_tell(rt, run, name, rows),
+        Row::DoesAlways(times, event, said) => does_always(rt, run, name, times, (event, said)),
+        Row::Removes => removes(rt, run, name),
+        Row::Resumes(worker) => resumes(rt, run, name, worker),
+        Row::Finishes(worker) => finishes(rt, run, name, worker),
+        Row::Runs(worker, calls) => all_run(rt, run, name, worker, calls),
+        Row::GoBack(times) => all_go_back(rt, run, name, times),
+        Row::Hands(digits) => hands(rt, run, name, digits),
+        Row::HandsInstead(digits) => hands_instead(rt, run, name, digits),
+        Row::Asks(lock) => asks(rt, run, name, lock),
+        Row::Retries(said) => retries(rt, run, name, said),
+        look => assert!(rt; is_so(rt, &run.core, look), "{name}"),
     }
 }
 
-/// The run goes through these rows.
-fn plays(rt: &impl Abort, run: &mut Run, rows: &[Row<'_>]) {
-    for row in rows {
-        play(rt, run, *row);
+/// A run of this text that begins so.
+fn run_of(rt: &impl Abort, alloc: Global, text: &Text, start: &Start) -> Result<Run, Fail> {
+    let text = text_of(alloc, text)?;
+    match start {
+        Start::New(mode, n, m) => Run::new(rt, alloc, text.as_slice(), *n, *m, *mode),
+        Start::Opened => Run::opened(alloc, text.as_slice()),
     }
 }
 
-/// A run of this text on n streams with m workers goes through these rows.
-fn goes(
-    rt: &impl Abort,
-    alloc: Global,
-    text: &[u8],
-    n: u8,
-    m: u8,
-    rows: &[Row<'_>],
-) -> Result<(), Fail> {
-    goes_in(rt, alloc, LogMode::Values, text, n, m, rows)
-}
-
-/// The same in this mode.
-fn goes_in(
-    rt: &impl Abort,
-    alloc: Global,
-    mode: LogMode,
-    text: &[u8],
-    n: u8,
-    m: u8,
-    rows: &[Row<'_>],
-) -> Result<(), Fail> {
-    let mut run = Run::new(rt, alloc, text, n, m, mode)?;
-    plays(rt, &mut run, rows);
+/// A run goes through its rows.
+pub(crate) fn goes(rt: &impl Abort, alloc: Global, whole: &Play) -> Result<(), Fail> {
+    let (name, text, start, rows) = whole;
+    let mut run = run_of(rt, alloc, text, start)?;
+    for row in *rows {
+        play(rt, &mut run, name, *row);
+    }
     Ok(())
-}
-
-/// A run of this text that goes on from the opening goes through these rows.
-fn goes_on(rt: &impl Abort, alloc: Global, text: &[u8], rows: &[Row<'_>]) -> Result<(), Fail> {
-    let mut run = Run::opened(alloc, text)?;
-    plays(rt, &mut run, rows);
-    Ok(())
-}
-
-// A second writer of the row waits for the first. Its record is placed and not posted, so its stream is gathered no further than it was opened.
-#[test]
-fn a_second_writer_waits_for_the_first(rt: HostRuntime) -> Result<(), Fail> {
-    goes(
-        &rt,
-        rt.alloc(),
-        b"table a\nput a 1 5\nput a 1 6\n",
-        2,
-        2,
-        &[Row::Does(&[
-            (Event::Lock { worker: 0 }, Said::Granted(None)),
-            (Event::Lock { worker: 1 }, Said::Busy(0)),
-            (Event::Commit { worker: 0 }, Said::Placed(13)),
-            (Event::Post { worker: 0 }, Said::Went),
-            (Event::Free { worker: 0 }, Said::Went),
-            (Event::Done { worker: 0 }, Said::Went),
-            (Event::Lock { worker: 1 }, Said::Granted(Some(5))),
-            (Event::Commit { worker: 1 }, Said::Placed(13)),
-            (
-                Event::Persist {
-                    stream: 1,
-                    upto: 61,
-                },
-                Said::NotNow(Phase::Short { gathered: 13 }),
-            ),
-            (Event::Gather { stream: 0 }, Said::Gathered(53)),
-            (
-                Event::Persist {
-                    stream: 0,
-                    upto: 53,
-                },
-                Said::Went,
-            ),
-            (Event::Ack { worker: 0 }, Said::Acked(1, [53, 0, 0])),
-            (Event::Post { worker: 1 }, Said::Went),
-            (Event::Free { worker: 1 }, Said::Went),
-            (Event::Done { worker: 1 }, Said::Went),
-            (Event::Ack { worker: 1 }, Said::NothingCovered),
-            (Event::Stop { stream: 0, at: 53 }, Said::Went),
-            (
-                Event::Gather { stream: 0 },
-                Said::NotNow(Phase::Stopped { at: 53 }),
-            ),
-        ])],
-    )
-}
-
-// A call that adds to a row that another one wrote depends on it across the streams: its vector covers the end of that record.
-#[test]
-fn dependence_crosses_the_streams(rt: HostRuntime) -> Result<(), Fail> {
-    goes(
-        &rt,
-        rt.alloc(),
-        b"table a\nput a 1 5\nadd a 1 2\n",
-        2,
-        2,
-        &[
-            Row::Does(&[
-                (Event::Lock { worker: 0 }, Said::Granted(None)),
-                (Event::Commit { worker: 0 }, Said::Placed(13)),
-                (Event::Post { worker: 0 }, Said::Went),
-                (Event::Free { worker: 0 }, Said::Went),
-                (Event::Done { worker: 0 }, Said::Went),
-                (Event::Lock { worker: 1 }, Said::Granted(Some(5))),
-                (Event::Lock { worker: 1 }, Said::Granted(Some(5))),
-                (Event::Commit { worker: 1 }, Said::Placed(13)),
-                (Event::Post { worker: 1 }, Said::Went),
-                (Event::Free { worker: 1 }, Said::Went),
-                (Event::Done { worker: 1 }, Said::Went),
-                (Event::Gather { stream: 1 }, Said::Gathered(61)),
-                (
-                    Event::Persist {
-                        stream: 1,
-                        upto: 61,
-                    },
-                    Said::Went,
-                ),
-                (Event::Ack { worker: 1 }, Said::NothingCovered),
-                (Event::Gather { stream: 0 }, Said::Gathered(53)),
-                (
-                    Event::Persist {
-                        stream: 0,
-                        upto: 53,
-                    },
-                    Said::Went,
-                ),
-                (Event::Ack { worker: 1 }, Said::Acked(2, [53, 61, 0])),
-                (Event::Ack { worker: 0 }, Said::Acked(1, [53, 0, 0])),
-                (Event::Lock { worker: 0 }, Said::NotNow(Phase::Resting)),
-            ]),
-            Row::Keeps(0, 1, [0, 0, 0], [53, 0, 0]),
-            Row::Keeps(1, 2, [53, 0, 0], [53, 61, 0]),
-            Row::Finds(1, Some(7)),
-        ],
-    )
-}
-
-// What a Gather has moved are the records' bytes, once.
-#[test]
-fn gathered_bytes_are_handed_out_once(rt: HostRuntime) -> Result<(), Fail> {
-    goes(
-        &rt,
-        rt.alloc(),
-        b"table a\nput a 1 5\n",
-        2,
-        1,
-        &[
-            Row::Does(&[
-                (Event::Lock { worker: 0 }, Said::Granted(None)),
-                (Event::Commit { worker: 0 }, Said::Placed(13)),
-                (Event::Gather { stream: 0 }, Said::Gathered(13)),
-                (Event::Post { worker: 0 }, Said::Went),
-                (Event::Gather { stream: 0 }, Said::Gathered(53)),
-                (Event::Gather { stream: 0 }, Said::Gathered(53)),
-            ]),
-            Row::Hands(&[
-                1, 0, 0, 0, 40, 0, 0, 0, 0, 0, 0, 0, 1, 0, 0, 0, 0, 0, 0, 0, 1, 0, 0, 0, 0, 0, 0,
-                0, 0, 0, 1, 1, 0, 0, 0, 0, 0, 0, 0, 5,
-            ]),
-            Row::Hands(&[]),
-        ],
-    )
-}
-
-// They may be put in the place of other bytes, which are gone.
-#[test]
-fn gathered_bytes_take_the_place_of_others(rt: HostRuntime) -> Result<(), Fail> {
-    goes(
-        &rt,
-        rt.alloc(),
-        b"table a\nput a 1 5\nput a 2 5\n",
-        2,
-        2,
-        &[
-            Row::Does(&[
-                (Event::Lock { worker: 1 }, Said::Granted(None)),
-                (Event::Commit { worker: 1 }, Said::Placed(13)),
-                (Event::Post { worker: 1 }, Said::Went),
-                (Event::Gather { stream: 1 }, Said::Gathered(53)),
-                (Event::Lock { worker: 0 }, Said::Granted(None)),
-                (Event::Commit { worker: 0 }, Said::Placed(13)),
-                (Event::Post { worker: 0 }, Said::Went),
-                (Event::Gather { stream: 0 }, Said::Gathered(53)),
-            ]),
-            Row::HandsInstead(&[
-                1, 0, 0, 0, 40, 0, 0, 0, 0, 0, 0, 0, 1, 0, 0, 0, 0, 0, 0, 0, 1, 0, 0, 0, 0, 0, 0,
-                0, 0, 0, 1, 1, 0, 0, 0, 0, 0, 0, 0, 5,
-            ]),
-            Row::Hands(&[]),
-        ],
-    )
-}
-
-// A writer of a row that another call has read depends on the reader, also where the reader wrote nothing but an absent row.
-#[test]
-fn a_writer_depends_on_an_earlier_reader(rt: HostRuntime) -> Result<(), Fail> {
-    let text = b"table a\nproc dup 0\nget r0 a 1\nput a 2 r0\nend\ncall dup\nput a 1 9\n";
-    goes(
-        &rt,
-        rt.alloc(),
-        text,
-        2,
-        2,
-        &[
-            Row::Does(&[
-                (Event::Lock { worker: 0 }, Said::Granted(None)),
-                (Event::Lock { worker: 0 }, Said::Granted(None)),
-                (Event::Commit { worker: 0 }, Said::Placed(50)),
-                (Event::Post { worker: 0 }, Said::Went),
-                (Event::Free { worker: 0 }, Said::Went),
-                (Event::Free { worker: 0 }, Said::Went),
-                (Event::Done { worker: 0 }, Said::Went),
-                (Event::Lock { worker: 1 }, Said::Granted(None)),
-                (Event::Commit { worker: 1 }, Said::Placed(50)),
-                (Event::Post { worker: 1 }, Said::Went),
-                (Event::Free { worker: 1 }, Said::Went),
-                (Event::Done { worker: 1 }, Said::Went),
-                (Event::Gather { stream: 0 }, Said::Gathered(82)),
-                (Event::Gather { stream: 1 }, Said::Gathered(98)),
-            ]),
-            Row::Keeps(1, 2, [82, 0, 0], [82, 98, 0]),
-            Row::Finds(1, Some(9)),
-            Row::Finds(2, None),
-        ],
-    )
-}
-
-// A read-only call has no record, and is acknowledged only when what it read is persisted.
-#[test]
-fn a_reader_waits_for_what_it_read(rt: HostRuntime) -> Result<(), Fail> {
-    goes(
-        &rt,
-        rt.alloc(),
-        b"table a\nput a 1 5\nget a 1\n",
-        2,
-        2,
-        &[
-            Row::Does(&[
-                (Event::Lock { worker: 0 }, Said::Granted(None)),
-                (Event::Commit { worker: 0 }, Said::Placed(13)),
-                (Event::Post { worker: 0 }, Said::Went),
-                (Event::Free { worker: 0 }, Said::Went),
-                (Event::Done { worker: 0 }, Said::Went),
-                (Event::Lock { worker: 1 }, Said::Granted(Some(5))),
-                (Event::Commit { worker: 1 }, Said::NotNow(Phase::Freeing)),
-                (Event::Free { worker: 1 }, Said::Went),
-                (Event::Done { worker: 1 }, Said::Went),
-                (Event::Gather { stream: 1 }, Said::Gathered(13)),
-                (Event::Ack { worker: 0 }, Said::NothingCovered),
-                (Event::Ack { worker: 1 }, Said::NothingCovered),
-                (Event::Gather { stream: 0 }, Said::Gathered(53)),
-                (
-                    Event::Persist {
-                        stream: 0,
-                        upto: 53,
-                    },
-                    Said::Went,
-                ),
-                (Event::Ack { worker: 0 }, Said::Acked(1, [53, 0, 0])),
-                (Event::Ack { worker: 1 }, Said::Acked(2, [53, 0, 0])),
-            ]),
-            Row::Stands(1, None),
-        ],
-    )
-}
-
-// The other worker is first: the call of worker 0 meets Busy, and then depends on it.
-#[test]
-fn the_other_writer_may_be_first(rt: HostRuntime) -> Result<(), Fail> {
-    goes(
-        &rt,
-        rt.alloc(),
-        b"table a\nput a 1 5\nput a 1 6\n",
-        2,
-        2,
-        &[
-            Row::Does(&[
-                (Event::Lock { worker: 1 }, Said::Granted(None)),
-                (Event::Lock { worker: 0 }, Said::Busy(1)),
-                (Event::Quit { worker: 0 }, Said::NotNow(Phase::Locking)),
-                (Event::Commit { worker: 1 }, Said::Placed(13)),
-                (Event::Post { worker: 1 }, Said::Went),
-                (Event::Free { worker: 1 }, Said::Went),
-                (Event::Done { worker: 1 }, Said::Went),
-                (Event::Lock { worker: 0 }, Said::Granted(Some(6))),
-                (Event::Commit { worker: 0 }, Said::Placed(13)),
-                (Event::Post { worker: 0 }, Said::Went),
-                (Event::Free { worker: 0 }, Said::Went),
-                (Event::Done { worker: 0 }, Said::Went),
-                (Event::Gather { stream: 0 }, Said::Gathered(61)),
-            ]),
-            Row::Keeps(0, 2, [0, 0, 0], [0, 53, 0]),
-            Row::Keeps(1, 1, [0, 53, 0], [61, 53, 0]),
-            Row::Finds(1, Some(5)),
-        ],
-    )
-}
-
-// A call that meets Busy while it holds a key gives the key back, and begins again.
-#[test]
-fn a_busy_call_gives_its_keys_back(rt: HostRuntime) -> Result<(), Fail> {
-    let text = b"table a\nproc two 0\nput a 1 1\nput a 2 2\nend\nput a 2 6\ncall two\n";
-    goes(
-        &rt,
-        rt.alloc(),
-        text,
-        1,
-        2,
-        &[Row::Does(&[
-            (Event::Lock { worker: 0 }, Said::Granted(None)),
-            (Event::Lock { worker: 1 }, Said::Granted(None)),
-            (Event::Lock { worker: 1 }, Said::Busy(0)),
-            (Event::Lock { worker: 1 }, Said::NotNow(Phase::Quitting)),
-            (Event::Quit { worker: 1 }, Said::Went),
-            (Event::Quit { worker: 1 }, Said::NotNow(Phase::Locking)),
-            (Event::Lock { worker: 1 }, Said::Granted(None)),
-            (Event::Post { worker: 0 }, Said::NotNow(Phase::Ready)),
-        ])],
-    )
-}
-
-// An entry that was removed is in its shard's floor, so a call that comes to the row later still depends on its last writer.
-#[test]
-fn a_removed_entry_is_in_the_floor(rt: HostRuntime) -> Result<(), Fail> {
-    goes(
-        &rt,
-        rt.alloc(),
-        b"table a\nput a 1 5\nadd a 1 2\n",
-        2,
-        2,
-        &[
-            Row::Removes,
-            Row::Floor(1, [53, 0, 0]),
-            Row::Floor(2, [0, 0, 0]),
-            Row::Does(&[
-                (Event::Lock { worker: 1 }, Said::Granted(Some(5))),
-                (Event::Lock { worker: 1 }, Said::Granted(Some(5))),
-                (Event::Commit { worker: 1 }, Said::Placed(13)),
-            ]),
-            Row::Keeps(1, 2, [53, 0, 0], [53, 61, 0]),
-        ],
-    )
-}
-
-// So does a call on another row of that shard, which has no entry yet.
-#[test]
-fn a_new_entry_starts_at_the_floor(rt: HostRuntime) -> Result<(), Fail> {
-    goes(
-        &rt,
-        rt.alloc(),
-        b"table a\nput a 1 5\nput a 65 7\n",
-        2,
-        2,
-        &[
-            Row::Removes,
-            Row::Does(&[
-                (Event::Lock { worker: 1 }, Said::Granted(None)),
-                (Event::Commit { worker: 1 }, Said::Placed(13)),
-            ]),
-            Row::Keeps(1, 2, [53, 0, 0], [53, 61, 0]),
-        ],
-    )
-}
-
-// A record above an anchor is raised to it, names it and needs no component; one in a stream without an anchor has all components.
-#[test]
-fn a_record_is_raised_to_its_anchor(rt: HostRuntime) -> Result<(), Fail> {
-    goes(
-        &rt,
-        rt.alloc(),
-        b"table a\nput a 1 5\nadd a 1 2\nput a 3 9\n",
-        3,
-        3,
-        &[
-            Row::Does(&[
-                (Event::Lock { worker: 2 }, Said::Granted(None)),
-                (Event::Commit { worker: 2 }, Said::Placed(13)),
-                (Event::Post { worker: 2 }, Said::Went),
-                (Event::Free { worker: 2 }, Said::Went),
-                (Event::Done { worker: 2 }, Said::Went),
-                (Event::Gather { stream: 2 }, Said::Gathered(53)),
-                (
-                    Event::Persist {
-                        stream: 2,
-                        upto: 53,
-                    },
-                    Said::Went,
-                ),
-                (Event::Anchor { stream: 0 }, Said::Placed(13)),
-                (Event::Lock { worker: 0 }, Said::Granted(None)),
-                (Event::Commit { worker: 0 }, Said::Placed(42)),
-                (Event::Post { worker: 0 }, Said::Went),
-                (Event::Free { worker: 0 }, Said::Went),
-                (Event::Done { worker: 0 }, Said::Went),
-            ]),
-            Row::Keeps(1, 1, [13, 13, 53], [82, 13, 53]),
-            Row::Stands(
-                1,
-                Some(Spot {
-                    stream: 0,
-                    start: 42,
-                    past: 82,
-                    anchor: 1,
-                }),
-            ),
-            Row::Does(&[
-                (Event::Lock { worker: 1 }, Said::Granted(Some(5))),
-                (Event::Lock { worker: 1 }, Said::Granted(Some(5))),
-                (Event::Commit { worker: 1 }, Said::Placed(13)),
-                (Event::Post { worker: 1 }, Said::Went),
-                (Event::Free { worker: 1 }, Said::Went),
-                (Event::Done { worker: 1 }, Said::Went),
-                (Event::Gather { stream: 0 }, Said::Gathered(82)),
-                (
-                    Event::Persist {
-                        stream: 0,
-                        upto: 82,
-                    },
-                    Said::Went,
-                ),
-                (Event::Ack { worker: 0 }, Said::Acked(1, [82, 13, 53])),
-                (Event::Ack { worker: 1 }, Said::NothingCovered),
-                (Event::Ack { worker: 2 }, Said::Acked(3, [0, 0, 53])),
-            ]),
-            Row::Keeps(2, 2, [82, 13, 53], [82, 77, 53]),
-            Row::Stands(
-                2,
-                Some(Spot {
-                    stream: 1,
-                    start: 13,
-                    past: 77,
-                    anchor: 0,
-                }),
-            ),
-            Row::Finds(1, Some(7)),
-        ],
-    )
-}
-
-// A run goes on from an opening: its rows are there, its floor is in every vector, positions go on from its ends; a record names no anchor until one of this run
-// was placed, whose number comes after the opening's.
-#[test]
-fn a_run_goes_on_from_an_opening(rt: HostRuntime) -> Result<(), Fail> {
-    goes_on(
-        &rt,
-        rt.alloc(),
-        b"table a\nadd a 1 2\nput a 2 1\n",
-        &[
-            Row::Does(&[
-                (
-                    Event::Persist {
-                        stream: 0,
-                        upto: 41,
-                    },
-                    Said::NotNow(Phase::Short { gathered: 40 }),
-                ),
-                (Event::Lock { worker: 0 }, Said::Granted(Some(5))),
-                (Event::Lock { worker: 0 }, Said::Granted(Some(5))),
-                (Event::Commit { worker: 0 }, Said::Placed(40)),
-                (Event::Post { worker: 0 }, Said::Went),
-                (Event::Free { worker: 0 }, Said::Went),
-                (Event::Done { worker: 0 }, Said::Went),
-                (Event::Anchor { stream: 0 }, Said::Placed(96)),
-                (Event::Lock { worker: 0 }, Said::Granted(None)),
-                (Event::Commit { worker: 0 }, Said::Placed(117)),
-            ]),
-            Row::Keeps(0, 1, [20, 30, 0], [96, 30, 0]),
-            Row::Stands(
-                0,
-                Some(Spot {
-                    stream: 0,
-                    start: 40,
-                    past: 96,
-                    anchor: 0,
-                }),
-            ),
-            Row::Keeps(1, 2, [40, 50, 0], [157, 50, 0]),
-            Row::Stands(
-                1,
-                Some(Spot {
-                    stream: 0,
-                    start: 117,
-                    past: 157,
-                    anchor: 3,
-                }),
-            ),
-            Row::Ends([157, 50, 0]),
-            Row::Finds(1, Some(7)),
-        ],
-    )
-}
-
-// A call that has met Busy 64 times is left over, and goes back to its worker when all others have finished.
-#[test]
-fn the_last_busy_leaves_a_call_over(rt: HostRuntime) -> Result<(), Fail> {
-    goes(
-        &rt,
-        rt.alloc(),
-        b"table a\nput a 1 5\nput a 1 6\n",
-        2,
-        2,
-        &[
-            Row::Does(&[(Event::Lock { worker: 0 }, Said::Granted(None))]),
-            Row::DoesAlways(64, Event::Lock { worker: 1 }, Said::Busy(0)),
-            Row::Does(&[
-                (Event::Lock { worker: 1 }, Said::NotNow(Phase::Resting)),
-                (Event::Commit { worker: 0 }, Said::Placed(13)),
-                (Event::Post { worker: 0 }, Said::Went),
-                (Event::Free { worker: 0 }, Said::Went),
-            ]),
-            Row::Resumes(None),
-            Row::Does(&[(Event::Done { worker: 0 }, Said::Went)]),
-            Row::Resumes(Some(1)),
-            Row::Does(&[
-                (Event::Lock { worker: 1 }, Said::Granted(Some(5))),
-                (Event::Commit { worker: 1 }, Said::Placed(13)),
-            ]),
-            Row::Resumes(None),
-        ],
-    )
-}
-
-// Two hundred calls that were left over of two workers go back in ascending order.
-#[test]
-fn calls_left_over_go_back_in_order(rt: HostRuntime) -> Result<(), Fail> {
-    let text = puts(rt.alloc(), 300)?;
-    goes(
-        &rt,
-        rt.alloc(),
-        text.as_slice(),
-        2,
-        3,
-        &[
-            Row::Does(&[(Event::Lock { worker: 0 }, Said::Granted(None))]),
-            Row::DoesAlways(6_400, Event::Lock { worker: 1 }, Said::Busy(0)),
-            Row::DoesAlways(6_400, Event::Lock { worker: 2 }, Said::Busy(0)),
-            Row::Finishes(0),
-            Row::Runs(0, 99),
-            Row::GoBack(100),
-            Row::Resumes(None),
-            Row::Commits(300),
-            Row::Numbers(99, 298),
-            Row::Numbers(100, 2),
-            Row::Numbers(101, 3),
-            Row::Numbers(102, 5),
-            Row::Numbers(299, 300),
-        ],
-    )
-}
-
-// The calls of single events tell what their events return: the second writer is barred by worker 0, and its record is placed after that of its
-// stream's catalogue.
-#[test]
-fn single_calls_tell_what_events_return(rt: HostRuntime) -> Result<(), Fail> {
-    goes(
-        &rt,
-        rt.alloc(),
-        b"table a\nput a 1 5\nput a 1 6\n",
-        2,
-        2,
-        &[
-            Row::Tells(&[
-                (
-                    Event::Post { worker: 0 },
-                    Told::Acted(Acted::Other {
-                        kind: ActionKind::Nothing,
-                    }),
-                ),
-                (Event::Lock { worker: 0 }, Told::Acted(Acted::Went)),
-                (
-                    Event::Lock { worker: 1 },
-                    Told::Acted(Acted::Busy { holder: 0 }),
-                ),
-                (
-                    Event::Quit { worker: 0 },
-                    Told::Acted(Acted::Other {
-                        kind: ActionKind::Commit,
-                    }),
-                ),
-                (Event::Commit { worker: 0 }, Told::Acted(Acted::Went)),
-                (
-                    Event::Gather { stream: 0 },
-                    Told::Gathered(Gathering::Upto { upto: 13 }),
-                ),
-                (Event::Post { worker: 0 }, Told::Acted(Acted::Went)),
-                (Event::Free { worker: 0 }, Told::Acted(Acted::Went)),
-                (Event::Done { worker: 0 }, Told::Acted(Acted::Went)),
-                (Event::Ack { worker: 0 }, Told::NothingCovered),
-                (
-                    Event::Gather { stream: 0 },
-                    Told::Gathered(Gathering::Upto { upto: 53 }),
-                ),
-            ]),
-            Row::Tells(&[
-                (
-                    Event::Persist {
-                        stream: 0,
-                        upto: 54,
-                    },
-                    Told::Reached(Some(Phase::Short { gathered: 53 })),
-                ),
-                (
-                    Event::Persist {
-                        stream: 0,
-                        upto: 53,
-                    },
-                    Told::Reached(None),
-                ),
-                (Event::Ack { worker: 0 }, Told::Acked(1, [53, 0, 0])),
-                (Event::Lock { worker: 1 }, Told::Acted(Acted::Went)),
-                (Event::Stop { stream: 0, at: 53 }, Told::Reached(None)),
-                (
-                    Event::Gather { stream: 0 },
-                    Told::Gathered(Gathering::Stopped { at: 53 }),
-                ),
-            ]),
-            Row::Finds(1, Some(5)),
-        ],
-    )
-}
-
-// A worker that rests wants the first lock of its next call. It is not taken, and the call begins again; once it has the key it
-// wants no other lock. Nothing is persisted before a flush is.
-#[test]
-fn a_lock_that_is_not_taken(rt: HostRuntime) -> Result<(), Fail> {
-    let mut run = Run::new(
-        &rt,
-        rt.alloc(),
-        b"table a\nput a 7 5\n",
-        1,
-        1,
-        LogMode::Values,
-    )?;
-    assert_eq!(rt; run.lock_asked(&rt), Some((1, 7, true)));
-    assert_eq!(rt; run.retried(&rt), Said::Went);
-    assert_eq!(rt; run.lock_asked(&rt), Some((1, 7, true)));
-    does(
-        &rt,
-        &mut run,
-        &[(Event::Lock { worker: 0 }, Said::Granted(None))],
-    );
-    assert_eq!(rt; run.lock_asked(&rt), None);
-    assert_eq!(rt; run.retried(&rt), Said::NotNow(Phase::Ready));
-    all_tell(
-        &rt,
-        &mut run,
-        &[
-            (Event::Commit { worker: 0 }, Told::Acted(Acted::Went)),
-            (Event::Post { worker: 0 }, Told::Acted(Acted::Went)),
-            (
-                Event::Gather { stream: 0 },
-                Told::Gathered(Gathering::Upto { upto: 53 }),
-            ),
-        ],
-    );
-    assert_eq!(rt; positions(&run.core.plv()), [13, 0, 0]);
-    all_tell(
-        &rt,
-        &mut run,
-        &[(
-            Event::Persist {
-                stream: 0,
-                upto: 53,
-            },
-            Told::Reached(None),
-        )],
-    );
-    assert_eq!(rt; positions(&run.core.plv()), [53, 0, 0]);
-    Ok(())
-}
-
-/// One call on two streams, whose record has these bytes and ends here.
-fn puts_alone(
-    rt: &impl Abort,
-    alloc: Global,
-    mode: LogMode,
-    record: &[u8],
-    past: u64,
-) -> Result<(), Fail> {
-    goes_in(
-        rt,
-        alloc,
-        mode,
-        b"table a\nput a 1 5\n",
-        2,
-        1,
-        &[
-            Row::Does(&[
-                (Event::Lock { worker: 0 }, Said::Granted(None)),
-                (Event::Commit { worker: 0 }, Said::Placed(13)),
-                (Event::Post { worker: 0 }, Said::Went),
-                (Event::Free { worker: 0 }, Said::Went),
-                (Event::Done { worker: 0 }, Said::Went),
-                (Event::Gather { stream: 0 }, Said::Gathered(past)),
-            ]),
-            Row::Hands(record),
-            Row::Does(&[
-                (
-                    Event::Persist {
-                        stream: 0,
-                        upto: past,
-                    },
-                    Said::Went,
-                ),
-                (Event::Ack { worker: 0 }, Said::Acked(1, [past, 0, 0])),
-            ]),
-        ],
-    )
-}
-
-// The mode says whether a record holds the call, and whether its mask has 16 bits or 32.
-#[test]
-fn each_mode_has_its_records(rt: HostRuntime) -> Result<(), Fail> {
-    let alloc = rt.alloc();
-    let command = [
-        2, 0, 0, 0, 49, 0, 0, 0, 0, 0, 0, 0, 1, 0, 0, 0, 0, 0, 0, 0, 0, 3, 1, 0, 0, 0, 0, 0, 0, 0,
-        0, 1, 0, 0, 0, 0, 0, 0, 0, 1, 1, 0, 0, 0, 0, 0, 0, 0, 5,
-    ];
-    let wide = [
-        1, 0, 0, 0, 42, 0, 0, 0, 0, 0, 0, 0, 1, 0, 0, 0, 0, 0, 0, 0, 0, 0, 1, 0, 0, 0, 0, 0, 0, 0,
-        0, 0, 1, 1, 0, 0, 0, 0, 0, 0, 0, 5,
-    ];
-    let wide_command = [
-        2, 0, 0, 0, 51, 0, 0, 0, 0, 0, 0, 0, 1, 0, 0, 0, 0, 0, 0, 0, 0, 0, 0, 3, 1, 0, 0, 0, 0, 0,
-        0, 0, 0, 1, 0, 0, 0, 0, 0, 0, 0, 1, 1, 0, 0, 0, 0, 0, 0, 0, 5,
-    ];
-    puts_alone(&rt, alloc, LogMode::Commands, &command, 62)?;
-    puts_alone(&rt, alloc, LogMode::WideValues, &wide, 55)?;
-    puts_alone(&rt, alloc, LogMode::WideCommands, &wide_command, 64)
-}
-
-// Of 32 streams and 32 workers, the last call runs to its end. The first one is then raised to an anchor of all streams.
-#[test]
-fn the_last_of_32_workers_runs(rt: HostRuntime) -> Result<(), Fail> {
-    let text = puts(rt.alloc(), 32)?;
-    goes_in(
-        &rt,
-        rt.alloc(),
-        LogMode::WideValues,
-        text.as_slice(),
-        32,
-        32,
-        &[
-            Row::Does(&[
-                (Event::Lock { worker: 31 }, Said::Granted(None)),
-                (Event::Lock { worker: 0 }, Said::Busy(31)),
-                (Event::Commit { worker: 31 }, Said::Placed(13)),
-                (Event::Post { worker: 31 }, Said::Went),
-                (Event::Free { worker: 31 }, Said::Went),
-                (Event::Done { worker: 31 }, Said::Went),
-                (Event::Gather { stream: 31 }, Said::Gathered(55)),
-                (
-                    Event::Persist {
-                        stream: 31,
-                        upto: 55,
-                    },
-                    Said::Went,
-                ),
-                (Event::Ack { worker: 31 }, Said::Acked(32, [0, 0, 0])),
-                (Event::Anchor { stream: 0 }, Said::Placed(13)),
-                (Event::Lock { worker: 0 }, Said::Granted(Some(5))),
-                (Event::Commit { worker: 0 }, Said::Placed(274)),
-                (Event::Post { worker: 0 }, Said::Went),
-                (Event::Free { worker: 0 }, Said::Went),
-                (Event::Done { worker: 0 }, Said::Went),
-                (Event::Gather { stream: 0 }, Said::Gathered(316)),
-                (
-                    Event::Persist {
-                        stream: 0,
-                        upto: 316,
-                    },
-                    Said::Went,
-                ),
-                (Event::Ack { worker: 0 }, Said::Acked(1, [316, 13, 13])),
-            ]),
-            Row::Reaches(0, 31, (0, 55)),
-            Row::Reaches(1, 31, (55, 55)),
-            Row::Reaches(1, 16, (13, 13)),
-            Row::Reaches(1, 0, (13, 316)),
-            Row::Stands(
-                1,
-                Some(Spot {
-                    stream: 0,
-                    start: 274,
-                    past: 316,
-                    anchor: 1,
-                }),
-            ),
-        ],
-    )
-}
-
-// Of 32 streams, the first worker depends on the last one: the mask of its record has bit 31.
-#[test]
-fn masks_reach_the_last_of_32_streams(rt: HostRuntime) -> Result<(), Fail> {
-    let text = puts(rt.alloc(), 32)?;
-    let record = [
-        1, 0, 0, 0, 50, 0, 0, 0, 0, 0, 0, 0, 1, 0, 0, 0, 0, 128, 0, 0, 0, 0, 0, 0, 0, 0, 0, 0, 55,
-        0, 1, 0, 0, 0, 0, 0, 0, 0, 0, 0, 1, 1, 0, 0, 0, 0, 0, 0, 0, 5,
-    ];
-    goes_in(
-        &rt,
-        rt.alloc(),
-        LogMode::WideValues,
-        text.as_slice(),
-        32,
-        32,
-        &[
-            Row::Does(&[
-                (Event::Lock { worker: 31 }, Said::Granted(None)),
-                (Event::Commit { worker: 31 }, Said::Placed(13)),
-                (Event::Post { worker: 31 }, Said::Went),
-                (Event::Free { worker: 31 }, Said::Went),
-                (Event::Lock { worker: 0 }, Said::Granted(Some(5))),
-                (Event::Commit { worker: 0 }, Said::Placed(13)),
-                (Event::Post { worker: 0 }, Said::Went),
-                (Event::Gather { stream: 0 }, Said::Gathered(63)),
-            ]),
-            Row::Hands(&record),
-            Row::Reaches(1, 31, (55, 55)),
-            Row::Reaches(1, 0, (0, 63)),
-        ],
-    )
 }
