@@ -2,6 +2,6 @@
 #![tactic(auto)]
 
 #[cfg(test)]
-mod runs;
-#[cfg(test)]
 mod tests;
+#[cfg(test)]
+mod worked;
