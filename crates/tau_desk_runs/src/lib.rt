@@ -2,8 +2,6 @@
 #![tactic(auto)]
 
 #[cfg(test)]
-mod peeks;
-#[cfg(test)]
 mod removals;
 #[cfg(test)]
 mod rounds;
@@ -12,4 +10,4 @@ mod runs;
 #[cfg(test)]
 mod support;
 #[cfg(test)]
-mod tests;
+mod turns;

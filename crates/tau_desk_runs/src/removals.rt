@@ -5,7 +5,7 @@ ghost use Rattle.tau_core.specs.Opens.{Opened};
 ghost use Rattle.tau_desk_runs.specs.Same.{IsSameClerk, IsSameHead};
 
 use crate::support::{
-    Stuck, closes, desk_of, join_clerk, join_manager, join_worker, manage, no_call, number_at,
+    Stuck, closes, desk_in, join_clerk, join_manager, join_worker, manage, no_call, number_at,
     split_clerk, split_manager, split_worker, work,
 };
 use std::alloc::Global;
@@ -13,9 +13,10 @@ use std::process::Abort;
 use std::sync::Wait;
 use std::sync::atomic::AtomicU64;
 use std::test::*;
-use tau_base::Lv;
+use tau_base::{Lv, SHARDS};
 use tau_core::Core;
 use tau_desk::{ClerkSeat, Desk, Head};
+use tau_occ::Style;
 
 /// A call with its number and its vector.
 type Told = (u64, [u64; 2]);
@@ -116,10 +117,11 @@ struct Ran {
 }
 
 /// The run of two calls of two workers on two streams, one after the other. Between them the first record is made durable, and what is covered is dropped from this shard.
-fn run_of<R: Wait>(rt: &R, alloc: Global, text: &[u8], shard: u8) -> Result<Ran, Fail>
-    requires { shard < SHARDS }
-{
-    let (desk, mut head) = desk_of(alloc, text, 2, 2)?;
+fn run_of<R: Wait>(rt: &R, alloc: Global, text: &[u8], shard: u8) -> Result<Ran, Fail> {
+    if shard as usize >= SHARDS {
+        return Err(Fail::new("no shard"));
+    }
+    let (desk, mut head) = desk_in(alloc, text, 2, 2, Style::Locking)?;
     match steps(rt, alloc, &desk, &mut head, shard) {
         Ok((gathered, told)) => Ok(Ran {
             core: closes(desk, head)?,
@@ -151,49 +153,75 @@ fn steps<R: Wait>(
     Ok(((first, second), told))
 }
 
-/// Checks a call that has committed: its number, its dep, and where its record starts and ends.
-fn stands(rt: &impl Abort, core: &Core, i: usize, wanted: (u64, [u64; 2], u64, u64)) {
-    assert_eq!(rt; place(core, i), Some(wanted));
+/// A run: its text, the shard from which what is covered is dropped, where what each manager gathered ends, the calls that have committed,
+/// each with its number, its dep, and where its record starts and ends, what the clerk acknowledges of both workers, and the
+/// numbers of rows.
+struct Row {
+    text: &'static [u8],
+    shard: u8,
+    gathered: (u64, u64),
+    calls: &'static [(u64, [u64; 2], u64, u64)],
+    told: (Told, Told),
+    rows: &'static [(i64, i64)],
 }
 
-/// Checks what the clerk acknowledged of both workers.
-fn told(rt: &impl Abort, ran: &Ran, first: Told, second: Told) {
-    assert_eq!(rt; ran.told, (Some(first), Some(second)));
+static ROWS: [Row; 3] = [
+    // The second call adds to the row whose entry was removed.
+    Row {
+        text: b"table a\nput a 1 5\nadd a 1 2\n",
+        shard: 1,
+        gathered: (53, 61),
+        calls: &[(1, [0, 0], 13, 53), (2, [53, 0], 13, 61)],
+        told: ((1, [53, 0]), (2, [53, 61])),
+        rows: &[(1, 7)],
+    },
+    // The second call puts another row of the same shard.
+    Row {
+        text: b"table a\nput a 1 5\nput a 65 7\n",
+        shard: 1,
+        gathered: (53, 61),
+        calls: &[(1, [0, 0], 13, 53), (2, [53, 0], 13, 61)],
+        told: ((1, [53, 0]), (2, [53, 61])),
+        rows: &[(1, 5), (65, 7)],
+    },
+    // The same if nothing was dropped from that shard: the second call depends on nothing.
+    Row {
+        text: b"table a\nput a 1 5\nput a 65 7\n",
+        shard: 2,
+        gathered: (53, 53),
+        calls: &[(1, [0, 0], 13, 53), (2, [0, 0], 13, 53)],
+        told: ((1, [53, 0]), (2, [0, 53])),
+        rows: &[(1, 5), (65, 7)],
+    },
+];
+
+/// The calls that have committed are these.
+fn stand(rt: &impl Abort, core: &Core, calls: &[(u64, [u64; 2], u64, u64)]) {
+    for (i, wanted) in calls.iter().enumerate() {
+        assert!(rt; place(core, i) == Some(*wanted), "call {i}");
+    }
 }
 
-/// Checks the number of a row.
-fn holds(rt: &impl Abort, core: &Core, row: i64, number: i64) {
-    assert_eq!(rt; number_at(core, row), Some(number));
+/// The rows hold these numbers.
+fn hold(rt: &impl Abort, core: &Core, rows: &[(i64, i64)]) {
+    for (row, number) in rows {
+        assert!(rt; number_at(core, *row) == Some(*number), "row {row}");
+    }
 }
 
-// The second call adds to the row whose entry was removed.
-#[test]
-fn the_next_writer_of_the_row(rt: HostRuntime) -> Result<(), Fail> {
-    let ran = run_of(&rt, rt.alloc(), b"table a\nput a 1 5\nadd a 1 2\n", 1)?;
-    assert_eq!(rt; ran.gathered, (53, 61));
-    stands(&rt, &ran.core, 0, (1, [0, 0], 13, 53));
-    stands(&rt, &ran.core, 1, (2, [53, 0], 13, 61));
-    told(&rt, &ran, (1, [53, 0]), (2, [53, 61]));
-    holds(&rt, &ran.core, 1, 7);
+fn goes(rt: &(impl Abort + Wait), alloc: Global, row: &Row) -> Result<(), Fail> {
+    let ran = run_of(rt, alloc, row.text, row.shard)?;
+    let told = (Some(row.told.0), Some(row.told.1));
+    assert!(rt; ran.gathered == row.gathered && ran.told == told);
+    stand(rt, &ran.core, row.calls);
+    hold(rt, &ran.core, row.rows);
     Ok(())
 }
 
-// The second call puts another row of the same shard.
 #[test]
-fn another_row_of_the_shard(rt: HostRuntime) -> Result<(), Fail> {
-    let ran = run_of(&rt, rt.alloc(), b"table a\nput a 1 5\nput a 65 7\n", 1)?;
-    stands(&rt, &ran.core, 1, (2, [53, 0], 13, 61));
-    told(&rt, &ran, (1, [53, 0]), (2, [53, 61]));
-    holds(&rt, &ran.core, 1, 5);
-    holds(&rt, &ran.core, 65, 7);
-    Ok(())
-}
-
-// The same where nothing was dropped from that shard: the second call depends on nothing.
-#[test]
-fn another_row_where_the_entry_stays(rt: HostRuntime) -> Result<(), Fail> {
-    let ran = run_of(&rt, rt.alloc(), b"table a\nput a 1 5\nput a 65 7\n", 2)?;
-    stands(&rt, &ran.core, 1, (2, [0, 0], 13, 53));
-    told(&rt, &ran, (1, [53, 0]), (2, [0, 53]));
+fn entries_that_are_removed(rt: HostRuntime) -> Result<(), Fail> {
+    for row in &ROWS {
+        goes(&rt, rt.alloc(), row)?;
+    }
     Ok(())
 }

@@ -5,7 +5,7 @@ ghost use Rattle.tau_desk_runs.specs.Same.{IsSameHead};
 
 use crate::rounds::managers;
 use crate::support::{
-    Stuck, closes, desk_of, join_clerk, join_manager, join_worker, manage, number_at, split_clerk,
+    Stuck, closes, desk_in, join_clerk, join_manager, join_worker, manage, number_at, split_clerk,
     split_manager, split_resumed, tell, work,
 };
 use std::alloc::Global;
@@ -16,12 +16,13 @@ use std::test::*;
 use std::thread::Threads;
 use tau_core::Core;
 use tau_desk::{Desk, Head};
+use tau_occ::Style;
 
 /// 32 calls that each add 1 to row 1.
-static ONE_ROW: &[u8] =
+const ONE_ROW: &[u8] =
     b"table a\nadd a 1 1\nadd a 1 1\nadd a 1 1\nadd a 1 1\nadd a 1 1\nadd a 1 1\nadd a 1 1\nadd a 1 1\nadd a 1 1\nadd a 1 1\nadd a 1 1\nadd a 1 1\nadd a 1 1\nadd a 1 1\nadd a 1 1\nadd a 1 1\nadd a 1 1\nadd a 1 1\nadd a 1 1\nadd a 1 1\nadd a 1 1\nadd a 1 1\nadd a 1 1\nadd a 1 1\nadd a 1 1\nadd a 1 1\nadd a 1 1\nadd a 1 1\nadd a 1 1\nadd a 1 1\nadd a 1 1\nadd a 1 1\n";
 /// 16 calls that each add 1 to a row of 5, and 16 that put their row, of 16 others.
-static MANY_ROWS: &[u8] =
+const MANY_ROWS: &[u8] =
     b"table a\nadd a 1 1\nadd a 2 1\nadd a 3 1\nadd a 4 1\nadd a 5 1\nadd a 1 1\nadd a 2 1\nadd a 3 1\nadd a 4 1\nadd a 5 1\nadd a 1 1\nadd a 2 1\nadd a 3 1\nadd a 4 1\nadd a 5 1\nadd a 1 1\nput a 11 1\nput a 12 2\nput a 13 3\nput a 14 4\nput a 15 5\nput a 16 6\nput a 17 7\nput a 18 8\nput a 19 9\nput a 20 10\nput a 21 11\nput a 22 12\nput a 23 13\nput a 24 14\nput a 25 15\nput a 26 16\n";
 
 /// The calls that were left over, one after another.
@@ -123,7 +124,7 @@ fn run_of<R: Threads + Wait + Sync>(
     requires m_low { 1 ≤ m }
     requires m_high { m ≤ 16 }
 {
-    let (desk, head) = desk_of(alloc, text, n, m)?;
+    let (desk, head) = desk_in(alloc, text, n, m, Style::Locking)?;
     if desk.streams != n as usize {
         return Err(Fail::new("other streams"));
     }
@@ -153,52 +154,54 @@ fn right(core: &Core, from: i64, numbers: &[i64]) -> usize {
 
 /// The core of a desk that is closed as soon as it is opened.
 fn closed_at_once(alloc: Global, text: &[u8]) -> Result<Core, Fail> {
-    let (desk, head) = desk_of(alloc, text, 2, 2)?;
+    let (desk, head) = desk_in(alloc, text, 2, 2, Style::Locking)?;
     closes(desk, head)
 }
 
 #[test]
 fn opened_and_closed(rt: HostRuntime) -> Result<(), Fail> {
     let core = closed_at_once(rt.alloc(), ONE_ROW)?;
-    assert_eq!(rt; core.committed().len(), 0);
-    assert_eq!(rt; number_at(&core, 1), None);
+    assert!(rt; core.committed().len() == 0 && number_at(&core, 1) == None);
     Ok(())
 }
 
-/// Checks a core in which each of the 32 calls added 1 to row 1.
-fn holds_one_row(rt: &impl Abort, core: &Core) {
+/// A run: its text, streams and workers, and the numbers of rows from one on. All its 32 calls commit.
+type Row = (&'static [u8], u8, u8, &'static [(i64, &'static [i64])]);
+
+static ROWS: [Row; 4] = [
+    (ONE_ROW, 1, 2, &[(1, &[32])]),
+    (ONE_ROW, 3, 16, &[(1, &[32])]),
+    (MANY_ROWS, 2, 2, NUMBERS),
+    (MANY_ROWS, 4, 16, NUMBERS),
+];
+
+const NUMBERS: &[(i64, &[i64])] = &[
+    (1, &[4, 3, 3, 3, 3]),
+    (11, &[1, 2, 3, 4, 5, 6, 7, 8, 9, 10, 11, 12, 13, 14, 15, 16]),
+];
+
+/// The 32 calls have committed, and the rows hold these numbers.
+fn holds(rt: &impl Abort, core: &Core, numbers: &[(i64, &[i64])]) {
     assert_eq!(rt; core.committed().len(), 32);
-    assert_eq!(rt; number_at(core, 1), Some(32));
+    for (from, wanted) in numbers {
+        assert_eq!(rt; right(core, *from, wanted), wanted.len(), "from row {from}");
+    }
 }
 
-/// Checks a core of the calls on many rows.
-fn holds_many_rows(rt: &impl Abort, core: &Core) {
-    let put = [1, 2, 3, 4, 5, 6, 7, 8, 9, 10, 11, 12, 13, 14, 15, 16];
-    assert_eq!(rt; core.committed().len(), 32);
-    assert_eq!(rt; right(core, 1, &[4, 3, 3, 3, 3]), 5);
-    assert_eq!(rt; right(core, 11, &put), 16);
-}
-
-#[test]
-fn two_workers_over_one_row(rt: HostRuntime) -> Result<(), Fail> {
-    holds_one_row(&rt, &run_of(&rt, rt.alloc(), ONE_ROW, 1, 2)?);
+fn goes<R: Threads + Wait + Sync + Abort>(rt: &R, alloc: Global, row: &Row) -> Result<(), Fail> {
+    let (text, n, m, numbers) = row;
+    if *n < 1 || *n > 16 || *m < 1 || *m > 16 {
+        return Err(Fail::new("no such run"));
+    }
+    let core = run_of(rt, alloc, text, *n, *m)?;
+    holds(rt, &core, numbers);
     Ok(())
 }
 
 #[test]
-fn sixteen_workers_over_one_row(rt: HostRuntime) -> Result<(), Fail> {
-    holds_one_row(&rt, &run_of(&rt, rt.alloc(), ONE_ROW, 3, 16)?);
-    Ok(())
-}
-
-#[test]
-fn two_workers_over_many_rows(rt: HostRuntime) -> Result<(), Fail> {
-    holds_many_rows(&rt, &run_of(&rt, rt.alloc(), MANY_ROWS, 2, 2)?);
-    Ok(())
-}
-
-#[test]
-fn sixteen_workers_over_many_rows(rt: HostRuntime) -> Result<(), Fail> {
-    holds_many_rows(&rt, &run_of(&rt, rt.alloc(), MANY_ROWS, 4, 16)?);
+fn runs_in_threads(rt: HostRuntime) -> Result<(), Fail> {
+    for row in &ROWS {
+        goes(&rt, rt.alloc(), row)?;
+    }
     Ok(())
 }

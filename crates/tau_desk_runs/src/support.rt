@@ -22,20 +22,7 @@ pub struct Stuck {
     pub why: &'static str,
 }
 
-/// The desk of a run of this text in the style Locking, in which nothing has happened, and its head.
-pub fn desk_of(alloc: Global, text: &[u8], n: u8, m: u8) -> Result<(Desk, Head), Fail>
-    requires n_low { 1 ≤ n }
-    requires n_high { n ≤ 16 }
-    requires m_low { 1 ≤ m }
-    requires m_high { m ≤ 16 }
-    ensures own { IfOk result (λ d. d.1.table_id ≡ d.0.table.shared.table_id) }
-    ensures opened { IfOk result (λ d. d.1.me.0.opened ≡ Some d.0.table.shared.key.value) }
-    ensures run { IfOk result (λ d. Opened d.0.table.shared.key.value.load d.0.table.shared.key.value) }
-{
-    desk_in(alloc, text, n, m, Style::Locking)
-}
-
-/// The same in a given style.
+/// The desk of a run of this text, in which nothing has happened, and its head.
 pub fn desk_in(alloc: Global, text: &[u8], n: u8, m: u8, style: Style) -> Result<(Desk, Head), Fail>
     requires n_low { 1 ≤ n }
     requires n_high { n ≤ 16 }
@@ -60,8 +47,40 @@ pub fn desk_in(alloc: Global, text: &[u8], n: u8, m: u8, style: Style) -> Result
     }
 }
 
-/// One step of a worker; returns whether it had one.
-pub fn step<R: Wait>(rt: &R, desk: &Desk, seat: &mut WorkerSeat) -> Result<bool, Stuck>
+/// What came of a worker's turn.
+#[derive(Clone, Copy, Debug, PartialEq, Eq)]
+pub enum Said {
+    /// Its next call is in hand.
+    Began,
+    /// It has no call left.
+    Rests,
+    Locked,
+    Busy,
+    /// It peeked a row that is not there.
+    PeekedNone,
+    /// It peeked this number.
+    Peeked(i64),
+    Quit,
+    Committed,
+    Posted,
+    Freed,
+    Ended,
+    /// This can't be.
+    Stuck(&'static str),
+}
+
+/// What an action comes to that came to this if it went.
+pub fn came_to(acted: Acted, went: Said) -> Said {
+    match acted {
+        Acted::Went => went,
+        Acted::Busy => Said::Busy,
+        Acted::Other => Said::Stuck("not now"),
+        Acted::NoMemory => Said::Stuck("no memory"),
+    }
+}
+
+/// What the worker does next.
+pub fn act<R: Wait>(rt: &R, desk: &Desk, seat: &mut WorkerSeat) -> Said
     requires own { seat.old.table_id ≡ desk.now.table.shared.table_id }
     requires opened { seat.old.me.0.opened ≡ Some desk.now.table.shared.key.value }
     requires run { Opened desk.now.table.shared.key.value.load desk.now.table.shared.key.value }
@@ -69,32 +88,30 @@ pub fn step<R: Wait>(rt: &R, desk: &Desk, seat: &mut WorkerSeat) -> Result<bool,
 {
     match seat.next() {
         ActionKind::Nothing => begins(rt, desk, seat),
-        ActionKind::Lock => went(seat.lock(rt, desk)),
-        ActionKind::Quit => went(seat.quit(rt, desk)),
-        ActionKind::Commit => went(seat.commit(desk)),
+        ActionKind::Lock => came_to(seat.lock(rt, desk), Said::Locked),
+        ActionKind::Quit => came_to(seat.quit(rt, desk), Said::Quit),
+        ActionKind::Commit => came_to(seat.commit(desk), Said::Committed),
         ActionKind::Post => {
             seat.post(rt, desk);
-            Ok(true)
+            Said::Posted
         }
         ActionKind::Free => frees(rt, desk, seat),
         ActionKind::Done => ends(rt, desk, seat),
-        ActionKind::LeftOver => Err(Stuck {
-            why: "a call that is left over stays in the hand",
-        }),
+        ActionKind::LeftOver => Said::Stuck("a call that is left over stays in the hand"),
     }
 }
 
-fn went(acted: Acted) -> Result<bool, Stuck> {
-    match acted {
-        Acted::Went => Ok(true),
-        Acted::Busy => Ok(true),
-        Acted::Other => Err(Stuck { why: "not now" }),
-        Acted::NoMemory => Err(Stuck { why: "no memory" }),
+/// Whether the worker goes on after this.
+fn goes_on(said: Said) -> Result<bool, Stuck> {
+    match said {
+        Said::Rests => Ok(false),
+        Said::Stuck(why) => Err(Stuck { why }),
+        _ => Ok(true),
     }
 }
 
 /// Whether the outbox has room for the next call, which is made where it is missing.
-pub fn has_room<R: Wait>(rt: &R, desk: &Desk, seat: &mut WorkerSeat) -> bool
+fn has_room<R: Wait>(rt: &R, desk: &Desk, seat: &mut WorkerSeat) -> bool
     requires own { seat.old.table_id ≡ desk.now.table.shared.table_id }
     requires opened { seat.old.me.0.opened ≡ Some desk.now.table.shared.key.value }
     ensures same { IsSameSeat seat.old seat.new }
@@ -107,51 +124,50 @@ pub fn has_room<R: Wait>(rt: &R, desk: &Desk, seat: &mut WorkerSeat) -> bool
     seat.make_room(rt, desk)
 }
 
-fn begins<R: Wait>(rt: &R, desk: &Desk, seat: &mut WorkerSeat) -> Result<bool, Stuck>
+fn begins<R: Wait>(rt: &R, desk: &Desk, seat: &mut WorkerSeat) -> Said
     requires own { seat.old.table_id ≡ desk.now.table.shared.table_id }
     requires opened { seat.old.me.0.opened ≡ Some desk.now.table.shared.key.value }
     requires run { Opened desk.now.table.shared.key.value.load desk.now.table.shared.key.value }
     ensures { IsSameSeat seat.old seat.new }
 {
     if seat.in_hand() {
-        return Err(Stuck {
-            why: "a call is in hand",
-        });
+        return Said::Stuck("a call is in hand");
     }
     if !has_room(rt, desk, seat) {
-        return Err(Stuck { why: "no memory" });
+        return Said::Stuck("no memory");
     }
     match seat.begin(desk) {
-        Ok(begun) => Ok(begun),
-        Err(_) => Err(Stuck { why: "no memory" }),
+        Ok(true) => Said::Began,
+        Ok(false) => Said::Rests,
+        Err(_) => Said::Stuck("no memory"),
     }
 }
 
-fn frees<R: Wait>(rt: &R, desk: &Desk, seat: &mut WorkerSeat) -> Result<bool, Stuck>
+fn frees<R: Wait>(rt: &R, desk: &Desk, seat: &mut WorkerSeat) -> Said
     requires own { seat.old.table_id ≡ desk.now.table.shared.table_id }
     requires opened { seat.old.me.0.opened ≡ Some desk.now.table.shared.key.value }
     ensures { IsSameSeat seat.old seat.new }
 {
     if seat.has_joined() {
-        return went(seat.free(rt, desk));
+        return came_to(seat.free(rt, desk), Said::Freed);
     }
-    went(seat.first_free(rt, desk))
+    came_to(seat.first_free(rt, desk), Said::Freed)
 }
 
-fn ends<R: Wait>(rt: &R, desk: &Desk, seat: &mut WorkerSeat) -> Result<bool, Stuck>
+fn ends<R: Wait>(rt: &R, desk: &Desk, seat: &mut WorkerSeat) -> Said
     requires own { seat.old.table_id ≡ desk.now.table.shared.table_id }
     requires opened { seat.old.me.0.opened ≡ Some desk.now.table.shared.key.value }
     ensures { IsSameSeat seat.old seat.new }
 {
     if seat.next() != ActionKind::Done {
-        return Err(Stuck { why: "not the end" });
+        return Said::Stuck("not the end");
     }
     if seat.has_joined() {
         seat.done(rt, desk);
-        return Ok(true);
+        return Said::Ended;
     }
     seat.done_reading(rt, desk);
-    Ok(true)
+    Said::Ended
 }
 
 /// Steps of a worker, until it has none.
@@ -163,7 +179,7 @@ pub fn work<R: Wait>(rt: &R, desk: &Desk, mut seat: WorkerSeat) -> Result<Worker
     ensures opened { IfOk result (λ s. s.me.0.opened ≡ Some desk.now.table.shared.key.value) }
 {
     for _ in 0..1_000_000u64 {
-        if !step(rt, desk, &mut seat)? {
+        if !goes_on(act(rt, desk, &mut seat))? {
             return Ok(seat);
         }
     }

@@ -1,5 +1,5 @@
 use Rattle.std.proofs.Common.{◌≡◌}
-use Rattle.tau_desk_runs.proofs.peeks.first_wrong.Given as goal
+use Rattle.tau_desk_runs.proofs.turns.first_wrong.Given as goal
 
 abbrev pub invariant-loop-i : goal.invariant-loop-i
 invariant-loop-i g l = record {
