@@ -8,23 +8,24 @@ use tau_base::{
     shard_of, stream_of, worker_of,
 };
 
+/// A table, a row, and the shard of its key.
+static SHARDS: [(u16, i64, u8); 9] = [
+    (0, 1, 1),
+    (0, 65, 1),
+    (0, 66, 2),
+    (1, 1, 32),
+    (3, 0, 29),
+    (0, -1, 63),
+    (2, -62, 0),
+    (0, i64::MIN, 0),
+    (0, i64::MAX, 63),
+];
+
 #[test]
 fn shards_of_keys(rt: HostRuntime) {
-    let rows = [
-        (0u16, 1i64, 1u8),
-        (0, 65, 1),
-        (0, 66, 2),
-        (1, 1, 32),
-        (3, 0, 29),
-        (0, -1, 63),
-        (2, -62, 0),
-        (0, i64::MIN, 0),
-        (0, i64::MAX, 63),
-    ];
-    for (table, row, shard) in rows {
-        assert_eq!(rt;
-            shard_of(Key { table, row }),
-            shard,
+    for (table, row, shard) in SHARDS {
+        assert!(rt;
+            shard_of(Key { table, row }) == shard,
             "table {table}, row {row}"
         );
     }
@@ -33,10 +34,8 @@ fn shards_of_keys(rt: HostRuntime) {
 #[test]
 fn vectors_have_their_positions(rt: HostRuntime) {
     let zero = Lv::zero(3);
-    assert_eq!(rt; zero.width(), 3);
     let a = zero.with(0, 53);
-    assert_eq!(rt; a.get(0), 53);
-    assert_eq!(rt; a.position(5), 0);
+    assert!(rt; zero.width() == 3 && a.get(0) == 53 && a.position(5) == 0);
 }
 
 /// These positions, with another one for stream 1.
@@ -48,18 +47,15 @@ fn with_middle(rt: &impl Abort, parts: &[u64], position: u64) -> Lv {
     lv
 }
 
+/// Two vectors, and what they join to.
+static JOINING: [(&[u64], &[u64], &[u64]); 2] = [
+    (&[53, 0, 0], &[0, 0, 0, 0, 0], &[53, 0, 0, 0, 0]),
+    (&[53, 0, 0], &[0, 0, 61], &[53, 0, 61]),
+];
+
 #[test]
 fn vectors_join_and_cover(rt: HostRuntime) {
-    // Two vectors, and what they join to.
-    let rows = [
-        (
-            [53, 0, 0].as_slice(),
-            [0, 0, 0, 0, 0].as_slice(),
-            [53, 0, 0, 0, 0].as_slice(),
-        ),
-        (&[53, 0, 0], &[0, 0, 61], &[53, 0, 61]),
-    ];
-    for (a, b, both) in rows {
+    for (a, b, both) in JOINING {
         joins(&rt, &vector(&rt, a), &vector(&rt, b), &vector(&rt, both));
     }
     assert!(rt; !vector(&rt, &[53, 0, 0]).covers(&vector(&rt, &[0, 0, 61])));
@@ -105,22 +101,23 @@ fn first_of(rt: &impl Abort, parts: &[u64], width: usize) -> Lv {
 /// A vector that becomes this one, in place.
 fn becomes(rt: &impl Abort, place: &mut Lv, other: &Lv) {
     place.copy_from(other);
-    assert!(rt; *place == *other);
-    assert_eq!(rt; place.width(), other.width());
+    assert!(rt; *place == *other && place.width() == other.width());
 }
 
 /// A vector that becomes a zero of so many streams, in place.
 fn becomes_zero(rt: &impl Abort, place: &mut Lv, width: usize) {
     assert!(rt; 1 <= width && width <= MAX_STREAMS);
     place.set_zero(width);
-    assert!(rt; *place == Lv::zero(width));
-    assert_eq!(rt; place.width(), width);
-    assert_eq!(rt; place.position(0), 0);
-    assert_eq!(rt; place.position(width - 1), 0);
+    assert!(rt;
+        *place == Lv::zero(width)
+            && place.width() == width
+            && place.position(0) == 0
+            && place.position(width - 1) == 0
+    );
 }
 
 /// From each of four widths to each other one.
-const WIDTHS: [usize; 13] = [32, 1, 16, 17, 1, 17, 16, 32, 16, 1, 32, 17, 32];
+static WIDTHS: [usize; 13] = [32, 1, 16, 17, 1, 17, 16, 32, 16, 1, 32, 17, 32];
 
 #[test]
 fn vectors_are_copied_over_other_widths(rt: HostRuntime) {
@@ -151,8 +148,7 @@ fn vectors_become_zero_over_other_widths(rt: HostRuntime) {
 
 /// Two vectors join to this one, whichever of them is raised, and it covers both.
 fn joins(rt: &impl Abort, a: &Lv, b: &Lv, both: &Lv) {
-    assert!(rt; a.join(b) == *both);
-    assert!(rt; b.join(a) == *both);
+    assert!(rt; a.join(b) == *both && b.join(a) == *both);
     assert!(rt; both.covers(a) && both.covers(b));
     let mut raised = *a;
     raised.raise(b);
@@ -164,7 +160,7 @@ fn joins(rt: &impl Abort, a: &Lv, b: &Lv, both: &Lv) {
 
 /// What the first so many positions of `rising` and of `falling` join to: the first so many of `greater`, and then the others of the
 /// wider one.
-const JOINED: [(usize, usize, usize); 10] = [
+static JOINED: [(usize, usize, usize); 10] = [
     (32, 32, 32),
     (32, 17, 17),
     (32, 16, 16),
@@ -204,10 +200,20 @@ fn vectors_of_all_widths_join(rt: HostRuntime) {
 }
 
 /// Whether the first so many positions of `greater` cover so many of `rising`.
-fn covers_up(rt: &impl Abort, width: usize, up: usize, wanted: bool) {
-    let both = first_of(rt, greater(), width);
-    assert_eq!(rt; both.covers(&first_of(rt, rising(), up)), wanted);
+fn covers_up(rt: &impl Abort, width: usize, up: usize) -> bool {
+    first_of(rt, greater(), width).covers(&first_of(rt, rising(), up))
 }
+
+/// Widths of both, and whether the first vector covers the second.
+static COVERED: [(usize, usize, bool); 7] = [
+    (32, 32, true),
+    (32, 1, true),
+    (17, 16, true),
+    (17, 17, true),
+    (16, 17, false),
+    (31, 32, false),
+    (1, 2, false),
+];
 
 // A vector has zeros beyond its end.
 #[test]
@@ -216,41 +222,37 @@ fn wider_vectors_are_covered_up_to_their_zeros(rt: HostRuntime) {
     zeros.raise(&Lv::zero(32));
     assert!(rt; first_of(&rt, rising(), 16).covers(&zeros));
     assert!(rt; zeros.covers(&first_of(&rt, rising(), 16)));
-    for (width, up, wanted) in [
-        (32usize, 32usize, true),
-        (32, 1, true),
-        (17, 16, true),
-        (17, 17, true),
-        (16, 17, false),
-        (31, 32, false),
-        (1, 2, false),
-    ] {
-        covers_up(&rt, width, up, wanted);
+    for (width, up, wanted) in COVERED {
+        assert!(rt; covers_up(&rt, width, up) == wanted);
     }
 }
 
+/// Texts of 64 and of 65 bytes, and whether each is one.
+static TEXTS: [(&str, bool); 2] = [
+    (
+        "xxxxxxxxxxxxxxxxxxxxxxxxxxxxxxxxxxxxxxxxxxxxxxxxxxxxxxxxxxxxxxxx",
+        true,
+    ),
+    (
+        "xxxxxxxxxxxxxxxxxxxxxxxxxxxxxxxxxxxxxxxxxxxxxxxxxxxxxxxxxxxxxxxxx",
+        false,
+    ),
+];
+
+static NAMES: [(&str, bool); 3] = [
+    ("abcdefghijklmnop", true),
+    ("abcdefghijklmnopq", false),
+    ("", false),
+];
+
 #[test]
 fn texts_and_names_have_their_limits(rt: HostRuntime) {
-    let longest = "xxxxxxxxxxxxxxxxxxxxxxxxxxxxxxxxxxxxxxxxxxxxxxxxxxxxxxxxxxxxxxxx";
-    assert_eq!(rt; longest.len(), 64);
-    // Texts, and whether each is one.
-    let texts = [
-        (longest, true),
-        (
-            "xxxxxxxxxxxxxxxxxxxxxxxxxxxxxxxxxxxxxxxxxxxxxxxxxxxxxxxxxxxxxxxxx",
-            false,
-        ),
-    ];
-    for (text, wanted) in texts {
-        assert!(rt; is_text(text) == wanted, "{text}");
+    assert!(rt; TEXTS[0].0.len() == 64);
+    for (text, wanted) in &TEXTS {
+        assert!(rt; is_text(text) == *wanted, "{text}");
     }
-    let names = [
-        ("abcdefghijklmnop", true),
-        ("abcdefghijklmnopq", false),
-        ("", false),
-    ];
-    for (name, wanted) in names {
-        assert!(rt; is_name(name) == wanted, "{name}");
+    for (name, wanted) in &NAMES {
+        assert!(rt; is_name(name) == *wanted, "{name}");
     }
 }
 
@@ -277,8 +279,7 @@ fn values_are_the_same_or_not(rt: HostRuntime) {
         "xxxxxxxxxxxxxxxxxxxxxxxxxxxxxxxxxxxxxxxxxxxxxxxxxxxxxxxxxxxxxxxx",
     );
     let value = Value::Text(text);
-    assert!(rt; value.copied().is_same(&value));
-    assert!(rt; !value.is_same(&Value::Absent));
+    assert!(rt; value.copied().is_same(&value) && !value.is_same(&Value::Absent));
     assert!(rt; !Value::Int(0).is_same(&Value::Absent));
 }
 
@@ -292,8 +293,7 @@ fn lists_keep_their_elements(rt: HostRuntime) -> Result<(), Fail> {
     let mut list = Listed::new(rt.alloc());
     push(&mut list, 7)?;
     push(&mut list, 9)?;
-    assert_eq!(rt; list.len(), 2);
-    assert_eq!(rt; list.as_slice(), [7, 9].as_slice());
+    assert!(rt; list.len() == 2 && list.as_slice() == [7, 9].as_slice());
     let copy = list.clone().ok().ok_or("there is room")?;
     assert!(rt; Listed::of(copy.into_vec()) == list);
     Ok(())
@@ -309,7 +309,7 @@ fn lists_begin_with_room(rt: HostRuntime) -> Result<(), Fail> {
 }
 
 /// What stands after a call's numbers.
-#[derive(Drop)]
+#[derive(Clone, Copy)]
 enum Last<'a> {
     Nothing,
     Absent,
@@ -378,28 +378,30 @@ fn come_back(rt: &impl Abort, alloc: Global, rows: &[Row<'_>]) -> Result<(), Fai
 }
 
 /// Calls of few whole numbers, and calls with more arguments or others.
+static CALLS: [Row<'static>; 6] = [
+    (1, &[0, 65, -3], Last::Nothing),
+    (2, &[3, i64::MIN], Last::Nothing),
+    (6, &[], Last::Nothing),
+    (0, &[0, 5], Last::Text("five")),
+    (4, &[], Last::Absent),
+    (5, &[1, 2, 3, 4, 5, 6, 7, -8], Last::Nothing),
+];
+
+/// The second call of three, of few whole numbers, and the third, with a text.
+static THREE: [Row<'static>; 3] = [
+    (6, &[], Last::Nothing),
+    (1, &[0, 65, -3], Last::Nothing),
+    (0, &[0, 5], Last::Text("five")),
+];
+
 #[test]
 fn calls_come_back_as_they_were_put(rt: HostRuntime) -> Result<(), Fail> {
-    let rows = [
-        (1, [0, 65, -3].as_slice(), Last::Nothing),
-        (2, &[3, i64::MIN], Last::Nothing),
-        (6, &[], Last::Nothing),
-        (0, &[0, 5], Last::Text("five")),
-        (4, &[], Last::Absent),
-        (5, &[1, 2, 3, 4, 5, 6, 7, -8], Last::Nothing),
-    ];
-    come_back(&rt, rt.alloc(), &rows)
+    come_back(&rt, rt.alloc(), &CALLS)
 }
 
-// The second call of three, of few whole numbers, and the third, with a text.
 #[test]
 fn calls_are_found_by_their_place(rt: HostRuntime) -> Result<(), Fail> {
-    let rows = [
-        (6, [].as_slice(), Last::Nothing),
-        (1, &[0, 65, -3], Last::Nothing),
-        (0, &[0, 5], Last::Text("five")),
-    ];
-    come_back(&rt, rt.alloc(), &rows)
+    come_back(&rt, rt.alloc(), &THREE)
 }
 
 /// The vector (53,61), and after it (0,0,77), 32 positions and (1,2) of another list.
@@ -419,63 +421,73 @@ fn of_two_lists(rt: &impl Abort, alloc: Global) -> Result<LvList, Fail> {
 /// The vector at this index has these positions, also where it is put into a place.
 fn is_vector(rt: &impl Abort, list: &LvList, i: usize, parts: &[u64]) {
     assert!(rt; i < list.len());
-    assert_eq!(rt; list.get(i), parts);
     let mut place = Lv::zero(16);
     list.put_into(i, &mut place);
-    assert_eq!(rt; place.as_slice(), parts);
+    assert!(rt; list.get(i) == parts && place.as_slice() == parts);
 }
 
-// Vectors of several widths, from two lists.
+/// Vectors of several widths, from two lists.
+static FLAT: [&[u64]; 4] = [
+    &[53, 61],
+    &[0, 0, 77],
+    &[
+        1, 2, 3, 4, 5, 6, 7, 8, 9, 10, 11, 12, 13, 14, 15, 16, 17, 18, 19, 20, 21, 22, 23, 24, 25,
+        26, 27, 28, 29, 30, 31, 32,
+    ],
+    &[1, 2],
+];
+
 #[test]
 fn vectors_are_kept_flat(rt: HostRuntime) -> Result<(), Fail> {
     let list = of_two_lists(&rt, rt.alloc())?;
-    assert_eq!(rt; list.len(), 4);
-    let rows = [[53, 61].as_slice(), &[0, 0, 77], rising(), &[1, 2]];
-    for (i, parts) in rows.iter().enumerate() {
+    assert!(rt; list.len() == 4);
+    for (i, parts) in FLAT.iter().enumerate() {
         is_vector(&rt, &list, i, parts);
     }
     Ok(())
 }
 
+/// A call, of how many workers, and which one has it.
+static DEALT: [(u64, usize, usize); 12] = [
+    (1, 3, 0),
+    (2, 3, 1),
+    (3, 3, 2),
+    (4, 3, 0),
+    (5, 3, 1),
+    (6, 3, 2),
+    (7, 3, 0),
+    (1, 32, 0),
+    (17, 32, 16),
+    (18, 32, 17),
+    (32, 32, 31),
+    (33, 32, 0),
+];
+
 #[test]
 fn calls_are_dealt_in_turn(rt: HostRuntime) {
-    // The call, of how many workers, and which one has it.
-    let rows = [
-        (1, 3, 0),
-        (2, 3, 1),
-        (3, 3, 2),
-        (4, 3, 0),
-        (5, 3, 1),
-        (6, 3, 2),
-        (7, 3, 0),
-        (1, 32, 0),
-        (17, 32, 16),
-        (18, 32, 17),
-        (32, 32, 31),
-        (33, 32, 0),
-    ];
-    for (call, workers, worker) in rows {
+    for (call, workers, worker) in DEALT {
         assert!(rt; 1 <= workers);
-        assert_eq!(rt; worker_of(call, workers), worker, "call {call}");
+        assert!(rt; worker_of(call, workers) == worker, "call {call}");
     }
 }
 
+/// A worker, of how many streams, and which one has its records.
+static STREAMS: [(usize, usize, usize); 9] = [
+    (0, 2, 0),
+    (1, 2, 1),
+    (2, 2, 0),
+    (3, 2, 1),
+    (4, 2, 0),
+    (0, 17, 0),
+    (16, 17, 16),
+    (17, 17, 0),
+    (31, 17, 14),
+];
+
 #[test]
 fn records_are_dealt_in_turn(rt: HostRuntime) {
-    // The worker, of how many streams, and which one has its records.
-    let rows = [
-        (0, 2, 0),
-        (1, 2, 1),
-        (2, 2, 0),
-        (3, 2, 1),
-        (4, 2, 0),
-        (0, 17, 0),
-        (16, 17, 16),
-        (17, 17, 0),
-        (31, 17, 14),
-    ];
-    for (worker, streams, stream) in rows {
+    for (worker, streams, stream) in STREAMS {
         assert!(rt; 1 <= streams);
-        assert_eq!(rt; stream_of(worker, streams), stream, "worker {worker}");
+        assert!(rt; stream_of(worker, streams) == stream, "worker {worker}");
     }
 }

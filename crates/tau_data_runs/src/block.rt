@@ -84,7 +84,7 @@ fn becomes(
         append_closed(rt, image, part(rt, log, *from, *past))?;
         open(rt, image.as_mut_slice(), *gate);
     }
-    assert_eq!(rt; image.as_slice(), log);
+    assert!(rt; image.as_slice() == log);
     Ok(())
 }
 
@@ -135,26 +135,18 @@ fn images_of_format_2_are_written(rt: HostRuntime) -> Result<(), Fail> {
 
 /// The bytes of the content are those of both blocks of the log.
 fn are_both(rt: &impl Abort, bytes: &[u8], log: &[u8]) {
-    assert_eq!(rt; bytes.len(), 53);
-    assert_eq!(rt; part(rt, bytes, 0, 13), part(rt, log, 21, 34));
-    assert_eq!(rt; part(rt, bytes, 13, 53), part(rt, log, 39, 79));
+    assert!(rt; bytes.len() == 53);
+    assert!(rt;
+        part(rt, bytes, 0, 13) == part(rt, log, 21, 34)
+            && part(rt, bytes, 13, 53) == part(rt, log, 39, 79)
+    );
 }
 
 #[test]
 fn closed_gates_end_the_content(rt: HostRuntime) -> Result<(), Fail> {
     let content = contents_of(rt.alloc(), log(), 0)?;
-    assert_eq!(rt; content.count, Some(1));
-    assert_eq!(rt; content.gate_at, 79);
+    assert!(rt; content.count == Some(1) && content.gate_at == 79);
     are_both(&rt, content.bytes.as_slice(), log());
-    Ok(())
-}
-
-#[test]
-fn gates_end_the_content(rt: HostRuntime) -> Result<(), Fail> {
-    for gate in [0, 2, 7, 255] {
-        let seen = found_changed(&rt, rt.alloc(), log(), &[(34, gate)], 0)?;
-        assert_eq!(rt; seen, (1, 34, 13, 0), "gate {gate}");
-    }
     Ok(())
 }
 
@@ -163,14 +155,14 @@ fn what_stands_after_a_closed_gate_is_not_read(rt: HostRuntime) -> Result<(), Fa
     let mut image = first(&rt, log(), 35).to_vec(rt.alloc())?;
     change(&rt, image.as_mut_slice(), &[(34, 0)]);
     image.extend_from_slice(&[1; 45])?;
-    assert_eq!(rt; found(rt.alloc(), image.as_slice(), 0), (1, 34, 13, 0));
+    assert!(rt; found(rt.alloc(), image.as_slice(), 0) == (1, 34, 13, 0));
     Ok(())
 }
 
 /// Nothing but the first gate is found in these bytes.
 fn are_unborn(rt: &impl Abort, alloc: Global, image: &[u8], j: u16) {
     let size = image.len();
-    assert_eq!(rt; found(alloc, image, j), (0, 16, 0, 0), "{size} bytes");
+    assert!(rt; found(alloc, image, j) == (0, 16, 0, 0), "{size} bytes");
 }
 
 #[test]
@@ -180,70 +172,17 @@ fn short_images_are_unborn(rt: HostRuntime) {
         are_unborn(&rt, alloc, first(&rt, log(), size), 0);
         are_unborn(&rt, alloc, first(&rt, &[1; 17], size.min(17)), 5);
     }
-    assert_eq!(rt; found(alloc, &[0u8; 18], 0), (0, 0, 0, 1));
+    assert!(rt; found(alloc, &[0u8; 18], 0) == (0, 0, 0, 1));
 }
 
-/// Where a byte of the log is changed, to what, and the number of the cause.
-static CHANGES: [(usize, u8, u8); 13] = [
-    (0, 0, 1),
-    (11, 51, 1),
-    (12, 1, 2),
-    (13, 0, 2),
-    (13, 17, 2),
-    (14, 1, 3),
-    (15, 1, 3),
-    (17, 1, 4),
-    (18, 1, 4),
-    (20, 0, 4),
-    (20, 63, 4),
-    (38, 41, 4),
-    (79, 1, 4),
-];
-
-/// The log with a byte changed, or cut to so many bytes, has the cause of this number.
-fn has_cause(
-    rt: &impl Abort,
-    alloc: Global,
-    log: &[u8],
-    row: &(usize, u8, u8),
-) -> Result<(), Fail> {
-    let (at, byte, cause) = *row;
-    let seen = found_changed(rt, alloc, log, &[(at, byte)], 0)?;
-    assert_eq!(rt; seen, (0, 0, 0, cause), "byte {at} set to {byte}");
-    Ok(())
-}
-
-#[test]
-fn causes_in_their_order(rt: HostRuntime) -> Result<(), Fail> {
-    for row in &CHANGES {
-        has_cause(&rt, rt.alloc(), log(), row)?;
-    }
-    Ok(())
-}
+static CUT: [usize; 8] = [18, 20, 21, 33, 34, 39, 78, 79];
 
 #[test]
 fn logs_that_are_cut(rt: HostRuntime) {
-    for size in [18, 20, 21, 33, 34, 39, 78, 79] {
-        let seen = found(rt.alloc(), first(&rt, log(), size), 0);
-        assert_eq!(rt; seen, (0, 0, 0, 4), "cut to {size} bytes");
+    for size in &CUT {
+        let seen = found(rt.alloc(), first(&rt, log(), *size), 0);
+        assert!(rt; seen == (0, 0, 0, 4), "cut to {size} bytes");
     }
-}
-
-// Of several causes the first one that is looked for is told. Bytes 13 and 15 are the number of streams and the stream.
-#[test]
-fn the_first_of_several_causes(rt: HostRuntime) -> Result<(), Fail> {
-    let rows = [
-        ([(13, 16), (15, 15), (15, 15)], 15, (16, 79, 53, 0)),
-        ([(13, 16), (15, 15), (15, 15)], 14, (0, 0, 0, 3)),
-        ([(13, 15), (15, 15), (15, 15)], 15, (0, 0, 0, 3)),
-        ([(13, 0), (15, 15), (15, 15)], 0, (0, 0, 0, 2)),
-        ([(13, 0), (15, 15), (0, 0)], 0, (0, 0, 0, 1)),
-    ];
-    for (changes, j, wanted) in rows {
-        let seen = found_changed(&rt, rt.alloc(), log(), &changes, j)?;
-        assert_eq!(rt; seen, wanted, "stream {j}");
-    }
-    Ok(())
 }
 
 /// The image of stream 2 of three with this body, before its gate is opened and after.
@@ -259,11 +198,9 @@ fn found_both(rt: &impl Abort, alloc: Global, body: &[u8]) -> Result<[Found; 2],
 fn bodies_of_all_sizes(rt: HostRuntime) -> Result<(), Fail> {
     for size in [1usize, MAX_BODY] {
         let body = vec![in rt.alloc(); 9; size]?;
-        assert_eq!(rt;
-            found_both(&rt, rt.alloc(), body.as_slice())?,
-            [(3, 16, 0, 0), (3, 21 + size as u64, size, 0)],
-            "{size} bytes, closed and open"
-        );
+        let seen = found_both(&rt, rt.alloc(), body.as_slice())?;
+        let wanted = [(3, 16, 0, 0), (3, 21 + size as u64, size, 0)];
+        assert!(rt; seen == wanted, "{size} bytes, closed and open");
     }
     Ok(())
 }
@@ -271,9 +208,7 @@ fn bodies_of_all_sizes(rt: HostRuntime) -> Result<(), Fail> {
 #[test]
 fn a_wide_content_is_read(rt: HostRuntime) -> Result<(), Fail> {
     let content = contents_of(rt.alloc(), wide_log(), 0)?;
-    assert_eq!(rt; content.count, Some(2));
-    assert_eq!(rt; content.gate_at, 81);
-    assert_eq!(rt; content.bytes.len(), 55);
+    assert!(rt; content.count == Some(2) && content.gate_at == 81 && content.bytes.len() == 55);
     Ok(())
 }
 
@@ -300,49 +235,65 @@ fn counts_of_format_2(rt: HostRuntime) -> Result<(), Fail> {
         let last = n - 1;
         let changes = [(13, n), (15, last)];
         let wide = found_changed(&rt, rt.alloc(), wide_log(), &changes, u16::from(last))?;
-        assert_eq!(rt; wide, (u16::from(n), 81, 55, 0), "{n} streams");
+        assert!(rt; wide == (u16::from(n), 81, 55, 0), "{n} streams");
         let changes = [(11, 49), (13, n), (15, last)];
         let narrow = found_changed(&rt, rt.alloc(), wide_log(), &changes, 16)?;
-        assert_eq!(rt; narrow, (0, 0, 0, 2), "{n} streams in format 1");
+        assert!(rt; narrow == (0, 0, 0, 2), "{n} streams in format 1");
     }
     Ok(())
 }
 
-/// Where a byte of the log of format 2 is changed, to what, and the number of the cause.
-static WIDE_CHANGES: [(usize, u8, u8); 11] = [
-    (0, 0, 1),
-    (11, 51, 1),
-    (12, 1, 2),
-    (13, 0, 2),
-    (13, 33, 2),
-    (14, 1, 3),
-    (15, 1, 3),
-    (17, 1, 4),
-    (20, 0, 4),
-    (38, 43, 4),
-    (81, 1, 4),
+/// Whether a log is that of format 2, which of its bytes are changed, the stream that is asked, and what is found.
+static CHANGES: [(bool, &[(usize, u8)], u16, Found); 37] = [
+    // a gate that does not read 1 ends the content
+    (false, &[(34, 0)], 0, (1, 34, 13, 0)),
+    (false, &[(34, 2)], 0, (1, 34, 13, 0)),
+    (false, &[(34, 7)], 0, (1, 34, 13, 0)),
+    (false, &[(34, 255)], 0, (1, 34, 13, 0)),
+    // each cause at its edge
+    (false, &[(0, 0)], 0, (0, 0, 0, 1)),
+    (false, &[(11, 51)], 0, (0, 0, 0, 1)),
+    (false, &[(12, 1)], 0, (0, 0, 0, 2)),
+    (false, &[(13, 0)], 0, (0, 0, 0, 2)),
+    (false, &[(13, 17)], 0, (0, 0, 0, 2)),
+    (false, &[(14, 1)], 0, (0, 0, 0, 3)),
+    (false, &[(15, 1)], 0, (0, 0, 0, 3)),
+    (false, &[(17, 1)], 0, (0, 0, 0, 4)),
+    (false, &[(18, 1)], 0, (0, 0, 0, 4)),
+    (false, &[(20, 0)], 0, (0, 0, 0, 4)),
+    (false, &[(20, 63)], 0, (0, 0, 0, 4)),
+    (false, &[(38, 41)], 0, (0, 0, 0, 4)),
+    (false, &[(79, 1)], 0, (0, 0, 0, 4)),
+    // of several causes the first one that is looked for is told; bytes 13 and 15 are the number of streams and the stream
+    (false, &[(13, 16), (15, 15)], 15, (16, 79, 53, 0)),
+    (false, &[(13, 16), (15, 15)], 14, (0, 0, 0, 3)),
+    (false, &[(13, 15), (15, 15)], 15, (0, 0, 0, 3)),
+    (false, &[(13, 0), (15, 15)], 0, (0, 0, 0, 2)),
+    (false, &[(13, 0), (15, 15), (0, 0)], 0, (0, 0, 0, 1)),
+    // the same in format 2
+    (true, &[(0, 0)], 0, (0, 0, 0, 1)),
+    (true, &[(11, 51)], 0, (0, 0, 0, 1)),
+    (true, &[(12, 1)], 0, (0, 0, 0, 2)),
+    (true, &[(13, 0)], 0, (0, 0, 0, 2)),
+    (true, &[(13, 33)], 0, (0, 0, 0, 2)),
+    (true, &[(14, 1)], 0, (0, 0, 0, 3)),
+    (true, &[(15, 1)], 0, (0, 0, 0, 3)),
+    (true, &[(17, 1)], 0, (0, 0, 0, 4)),
+    (true, &[(20, 0)], 0, (0, 0, 0, 4)),
+    (true, &[(38, 43)], 0, (0, 0, 0, 4)),
+    (true, &[(81, 1)], 0, (0, 0, 0, 4)),
+    (true, &[(13, 33), (15, 32)], 32, (0, 0, 0, 2)),
+    (true, &[(13, 33), (0, 0)], 0, (0, 0, 0, 1)),
+    (true, &[(13, 32), (15, 32)], 32, (0, 0, 0, 3)),
+    (true, &[(13, 32), (15, 31)], 30, (0, 0, 0, 3)),
 ];
 
 #[test]
-fn causes_in_format_2(rt: HostRuntime) -> Result<(), Fail> {
-    for row in &WIDE_CHANGES {
-        has_cause(&rt, rt.alloc(), wide_log(), row)?;
-    }
-    Ok(())
-}
-
-// Of several causes the first one that is looked for is told.
-#[test]
-fn the_first_of_several_causes_in_format_2(rt: HostRuntime) -> Result<(), Fail> {
-    let rows = [
-        ([(13, 33), (15, 32)], 32, 2),
-        ([(13, 33), (0, 0)], 0, 1),
-        ([(13, 32), (15, 32)], 32, 3),
-        ([(13, 32), (15, 31)], 30, 3),
-    ];
-    for (changes, j, cause) in rows {
-        let seen = found_changed(&rt, rt.alloc(), wide_log(), &changes, j)?;
-        assert_eq!(rt; seen, (0, 0, 0, cause), "stream {j}");
+fn changed_logs_end_or_have_causes(rt: HostRuntime) -> Result<(), Fail> {
+    for (row, (is_wide, changes, j, wanted)) in CHANGES.iter().enumerate() {
+        let log = if *is_wide { wide_log() } else { log() };
+        let seen = found_changed(&rt, rt.alloc(), log, changes, *j)?;
+        assert!(rt; seen == *wanted, "row {row}");
     }
     Ok(())
 }

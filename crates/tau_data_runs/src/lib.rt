@@ -1,4 +1,4 @@
-//! Values, procedures, records, rows, blocks, outboxes, waiting calls, epochs and histories, as tests.
+//! Values, procedures, blocks, outboxes, waiting calls, epochs and histories, as tests.
 #![tactic(auto)]
 
 #[cfg(test)]
@@ -10,17 +10,11 @@ mod block;
 #[cfg(test)]
 mod epoch;
 #[cfg(test)]
-mod memory;
-#[cfg(test)]
 mod model;
 #[cfg(test)]
 mod outbox;
 #[cfg(test)]
 mod proc;
-#[cfg(test)]
-mod record;
-#[cfg(test)]
-mod rows;
 #[cfg(test)]
 mod support;
 #[cfg(test)]

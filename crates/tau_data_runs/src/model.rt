@@ -1,7 +1,7 @@
 //! The store and the reported history, against values worked out by hand.
 use crate::support::{call_of, vector};
 use crate::words::Word::{self, Absent, Number, Text};
-use crate::words::{declared, key, reply_of, rows_of, transfer, value_of};
+use crate::words::{TRANSFER, declared, key, reply_of, rows_of, value_of};
 use std::alloc::Global;
 use std::process::Abort;
 use std::test::*;
@@ -10,7 +10,7 @@ use tau_model::{Committed, CommittedList, SerialStore, Spot, are_within, reporte
 use tau_proc::{FIRST_DECLARED, GET, PUT, Procs, Reply};
 
 /// What happens to a store; rows are those of table 0.
-#[derive(Drop)]
+#[derive(Clone, Copy)]
 enum Happens<'a> {
     /// A call of this procedure replies this, or this step refuses it.
     Calls(u16, &'a [i64], Result<Word, u16>),
@@ -47,8 +47,10 @@ fn writes(
 
 fn holds(rt: &impl Abort, store: &SerialStore, row: i64, word: Word) -> Result<(), Fail> {
     let value = value_of(rt, word);
-    assert!(rt; store.value(key(row)) == value);
-    assert!(rt; store.value_ref(key(row)).unwrap_or(&Value::Absent) == &value);
+    assert!(rt;
+        store.value(key(row)) == value
+            && store.value_ref(key(row)).unwrap_or(&Value::Absent) == &value
+    );
     Ok(())
 }
 
@@ -84,7 +86,7 @@ fn goes_on(
 
 /// All of this happens to an empty store whose procedure moves amounts.
 fn goes(rt: &impl Abort, alloc: Global, all: &[Happens<'_>]) -> Result<(), Fail> {
-    let procs = declared(rt, alloc, "move", 3, &transfer())?;
+    let procs = declared(rt, alloc, "move", 3, TRANSFER)?;
     let mut store = SerialStore::new(alloc);
     for happens in all {
         goes_on(rt, alloc, &mut store, &procs, happens)?;
@@ -92,9 +94,10 @@ fn goes(rt: &impl Abort, alloc: Global, all: &[Happens<'_>]) -> Result<(), Fail>
     Ok(())
 }
 
-#[test]
-fn transfers_move_what_is_there(rt: HostRuntime) -> Result<(), Fail> {
-    let all = [
+/// What happens to two stores, one thing after another.
+static STORES: [&[Happens<'static>]; 2] = [
+    // transfers move what is there
+    &[
         Happens::Calls(PUT, &[0, 1, 100], Ok(Absent)),
         Happens::Calls(PUT, &[0, 2, 50], Ok(Absent)),
         Happens::Calls(FIRST_DECLARED, &[1, 2, 30], Ok(Number(70))),
@@ -104,20 +107,23 @@ fn transfers_move_what_is_there(rt: HostRuntime) -> Result<(), Fail> {
         Happens::Holds(2, Number(80)),
         Happens::Holds(3, Absent),
         Happens::HasRows(&[(1, Number(70)), (2, Number(80))]),
-    ];
-    goes(&rt, rt.alloc(), &all)
-}
-
-#[test]
-fn rows_are_written_and_removed(rt: HostRuntime) -> Result<(), Fail> {
-    let all = [
+    ],
+    // rows are written and removed
+    &[
         Happens::Writes(&[(1, Number(5)), (2, Number(6))]),
         Happens::Writes(&[(1, Absent), (2, Number(7))]),
         Happens::Holds(1, Absent),
         Happens::Holds(2, Number(7)),
         Happens::HasRows(&[(2, Number(7))]),
-    ];
-    goes(&rt, rt.alloc(), &all)
+    ],
+];
+
+#[test]
+fn stores_hold_what_is_written(rt: HostRuntime) -> Result<(), Fail> {
+    for all in &STORES {
+        goes(&rt, rt.alloc(), all)?;
+    }
+    Ok(())
 }
 
 /// The stream, start and end of a record above no anchor, where a call has one.
@@ -190,10 +196,10 @@ fn of_two_lists(
     put_last(rt, &mut list, first)?;
     let mut others = CommittedList::new(alloc);
     put_last(rt, &mut others, second)?;
-    assert_eq!(rt; others.len(), 2);
+    assert!(rt; others.len() == 2);
     list.reserve(2)?;
     list.append(others);
-    assert_eq!(rt; list.len(), 3);
+    assert!(rt; list.len() == 3);
     Ok(list)
 }
 
@@ -201,9 +207,7 @@ fn of_two_lists(
 fn is_kept(rt: &impl Abort, list: &CommittedList, i: usize, row: &Row<'_>) {
     assert!(rt; i < list.len());
     let call = list.at(i);
-    assert!(rt; call.reply() == reply_of(rt, row.1));
-    assert!(rt; call.dep() == row.2);
-    assert!(rt; call.spot() == row.3);
+    assert!(rt; call.reply() == reply_of(rt, row.1) && call.dep() == row.2 && call.spot() == row.3);
 }
 
 /// A position of the vector of the call at this index, with its own record.
@@ -217,22 +221,22 @@ fn is_covered(rt: &impl Abort, list: &CommittedList, i: usize, parts: &[u64]) ->
     list.at(i).is_covered(&vector(rt, parts))
 }
 
-// Replies of each kind, of two lists. The vector of the second call with its own record is (53,61).
+/// Replies of each kind.
+static KEPT: [Row<'static>; 3] = [
+    (1, Ok(Text("one")), &[53, 0], None),
+    (2, Err(3), &[53, 9], Some(SPOT)),
+    (3, Ok(Text("three")), &[1], None),
+];
+
+// The first call is of one list, the others are of another. The vector of the second call with its own record is (53,61).
 #[test]
 fn committed_calls_are_kept_short(rt: HostRuntime) -> Result<(), Fail> {
-    let rows: [Row<'_>; 3] = [
-        (1, Ok(Text("one")), &[53, 0], None),
-        (2, Err(3), &[53, 9], Some(SPOT)),
-        (3, Ok(Text("three")), &[1], None),
-    ];
-    let list = of_two_lists(&rt, rt.alloc(), &rows[..1], &rows[1..])?;
-    for (i, row) in rows.iter().enumerate() {
+    let list = of_two_lists(&rt, rt.alloc(), &KEPT[..1], &KEPT[1..])?;
+    for (i, row) in KEPT.iter().enumerate() {
         is_kept(&rt, &list, i, row);
     }
-    let positions = (position(&rt, &list, 1, 1), position(&rt, &list, 0, 0));
-    assert_eq!(rt; positions, (61, 53));
-    assert!(rt; is_covered(&rt, &list, 1, &[53, 61]));
-    assert!(rt; !is_covered(&rt, &list, 1, &[53, 60]));
+    assert!(rt; position(&rt, &list, 1, 1) == 61 && position(&rt, &list, 0, 0) == 53);
+    assert!(rt; is_covered(&rt, &list, 1, &[53, 61]) && !is_covered(&rt, &list, 1, &[53, 60]));
     Ok(())
 }
 
@@ -248,54 +252,60 @@ fn list_of(rt: &impl Abort, alloc: Global, calls: &[Plain<'_>]) -> Result<Commit
     Ok(kept)
 }
 
-/// These calls are reported in this order, where the streams end there.
-fn are_listed(
-    rt: &impl Abort,
-    alloc: Global,
-    ends: &[u64],
-    calls: &[Plain<'_>],
-    order: &[u64],
-) -> Result<(), Fail> {
-    let kept = list_of(rt, alloc, calls)?;
-    let found = order_of(rt, alloc, &vector(rt, ends), &kept)?;
-    assert_eq!(rt; found.as_slice(), order);
+/// Where the streams end, calls, and the order in which they are reported.
+static LISTED: [(&[u64], &[Plain<'static>], &[u64]); 5] = [
+    // calls are listed behind what they depend on
+    (
+        &[53, 61],
+        &[
+            (2, &[53, 0], Some((1, 13, 61))),
+            (1, &[0, 0], Some((0, 13, 53))),
+        ],
+        &[1, 2],
+    ),
+    (
+        &[61, 53],
+        &[
+            (1, &[0, 53], Some((0, 13, 61))),
+            (2, &[0, 0], Some((1, 13, 53))),
+        ],
+        &[2, 1],
+    ),
+    // covered read-only calls are listed before records
+    (
+        &[53, 13],
+        &[(2, &[53, 0], None), (1, &[0, 0], Some((0, 13, 53)))],
+        &[1, 2],
+    ),
+    (
+        &[53],
+        &[
+            (1, &[0], Some((0, 13, 53))),
+            (3, &[13], None),
+            (2, &[0], None),
+        ],
+        &[2, 3, 1],
+    ),
+    // raised vectors wait for other streams
+    (
+        &[82, 77, 53],
+        &[
+            (1, &[13, 13, 53], Some((0, 42, 82))),
+            (2, &[82, 13, 53], Some((1, 13, 77))),
+            (3, &[0, 0, 0], Some((2, 13, 53))),
+        ],
+        &[3, 1, 2],
+    ),
+];
+
+#[test]
+fn calls_are_listed_in_their_order(rt: HostRuntime) -> Result<(), Fail> {
+    for (row, (ends, calls, order)) in LISTED.iter().enumerate() {
+        let kept = list_of(&rt, rt.alloc(), calls)?;
+        let found = order_of(&rt, rt.alloc(), &vector(&rt, ends), &kept)?;
+        assert!(rt; found.as_slice() == *order, "row {row}");
+    }
     Ok(())
-}
-
-#[test]
-fn dependent_calls_are_listed_behind_what_they_depend_on(rt: HostRuntime) -> Result<(), Fail> {
-    let list: [Plain<'_>; 2] = [
-        (2, &[53, 0], Some((1, 13, 61))),
-        (1, &[0, 0], Some((0, 13, 53))),
-    ];
-    are_listed(&rt, rt.alloc(), &[53, 61], &list, &[1, 2])?;
-    let list: [Plain<'_>; 2] = [
-        (1, &[0, 53], Some((0, 13, 61))),
-        (2, &[0, 0], Some((1, 13, 53))),
-    ];
-    are_listed(&rt, rt.alloc(), &[61, 53], &list, &[2, 1])
-}
-
-#[test]
-fn covered_read_only_calls_are_listed_before_records(rt: HostRuntime) -> Result<(), Fail> {
-    let list: [Plain<'_>; 2] = [(2, &[53, 0], None), (1, &[0, 0], Some((0, 13, 53)))];
-    are_listed(&rt, rt.alloc(), &[53, 13], &list, &[1, 2])?;
-    let list: [Plain<'_>; 3] = [
-        (1, &[0], Some((0, 13, 53))),
-        (3, &[13], None),
-        (2, &[0], None),
-    ];
-    are_listed(&rt, rt.alloc(), &[53], &list, &[2, 3, 1])
-}
-
-#[test]
-fn raised_vectors_wait_for_other_streams(rt: HostRuntime) -> Result<(), Fail> {
-    let list: [Plain<'_>; 3] = [
-        (1, &[13, 13, 53], Some((0, 42, 82))),
-        (2, &[82, 13, 53], Some((1, 13, 77))),
-        (3, &[0, 0, 0], Some((2, 13, 53))),
-    ];
-    are_listed(&rt, rt.alloc(), &[82, 77, 53], &list, &[3, 1, 2])
 }
 
 /// Calls of which each depends on the one before it, over 8 streams; each tenth is read-only.

@@ -1,5 +1,7 @@
+//! Pieces of streams that wait to be gathered.
 use std::alloc::Global;
 use std::process::Abort;
+use std::test::Fail;
 use tau_outbox::Outbox;
 
 /// Pieces at 13, 15 and 20.
@@ -50,4 +52,19 @@ fn gathers_into_room_that_was_made(rt: HostRuntime) {
     assert_eq!(rt; outbox.gather_reserved(13, &mut body), 15);
     assert_eq!(rt; body.as_slice(), [1, 2].as_slice());
     assert_eq!(rt; outbox.gather_reserved(15, &mut body), 15);
+}
+
+// The memory of a piece that was gathered is given out for another one.
+#[test]
+fn memory_of_a_gathered_piece_is_given_out(rt: HostRuntime) -> Result<(), Fail> {
+    let mut outbox = Outbox::new(rt.alloc());
+    outbox.reserve()?;
+    outbox.post(13, vec![in rt.alloc(); 1, 2]?);
+    let mut body = Vec::new(rt.alloc());
+    assert_eq!(rt; outbox.gather_into(13, &mut body), Ok(15));
+    let spare = outbox.spare();
+    assert!(rt; spare.is_empty());
+    assert!(rt; spare.capacity() >= 2);
+    assert_eq!(rt; outbox.spare().capacity(), 0);
+    Ok(())
 }

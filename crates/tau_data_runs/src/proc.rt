@@ -1,7 +1,7 @@
 //! What calls do, against values worked out by hand.
 use crate::support::call_of;
 use crate::words::Word::{self, Absent, Argument, Number, Register, Text};
-use crate::words::{Plain, Sum, declared, key, proc_of, reply_of, rows_of, transfer, value_of};
+use crate::words::{Plain, Sum, TRANSFER, declared, key, proc_of, reply_of, rows_of, value_of};
 use arrayvec::ArrayVec;
 use std::alloc::Global;
 use std::process::Abort;
@@ -72,7 +72,7 @@ fn run(
 }
 
 /// A call with these arguments over these rows of table 0, and what it is to do.
-#[derive(Drop)]
+#[derive(Clone, Copy)]
 struct Case<'a> {
     args: &'a [i64],
     rows: &'a [(i64, Word)],
@@ -109,23 +109,44 @@ fn are_rows(reads: &[Key], rows: &[i64]) -> bool {
 }
 
 /// A call did what it was to do.
-fn has_done(rt: &impl Abort, alloc: Global, ran: &Ran, case: &Case<'_>) -> Result<(), Fail> {
+fn has_done(
+    rt: &impl Abort,
+    alloc: Global,
+    name: &str,
+    ran: &Ran,
+    case: &Case<'_>,
+) -> Result<(), Fail> {
     let writes = rows_of(rt, alloc, case.writes)?;
-    assert!(rt; ran.reply == reply_of(rt, case.reply));
-    assert!(rt; are_rows(ran.reads.as_slice(), case.reads));
-    assert!(rt; ran.writes.as_slice() == writes.as_slice());
+    assert!(rt;
+        ran.reply == reply_of(rt, case.reply)
+            && are_rows(ran.reads.as_slice(), case.reads)
+            && ran.writes.as_slice() == writes.as_slice(),
+        "{name}"
+    );
     Ok(())
 }
 
 /// A procedure of these steps does what it is to do.
-fn does(rt: &impl Abort, alloc: Global, steps: &[Plain], case: &Case<'_>) -> Result<(), Fail> {
+fn does(
+    rt: &impl Abort,
+    alloc: Global,
+    name: &str,
+    steps: &[Plain],
+    case: &Case<'_>,
+) -> Result<(), Fail> {
     let rows = rows_of(rt, alloc, case.rows)?;
     let ran = run_steps(rt, alloc, steps, case.args, rows.as_slice())?;
-    has_done(rt, alloc, &ran, case)
+    has_done(rt, alloc, name, &ran, case)
 }
 
 /// A procedure that every system has does what it is to do.
-fn built_in_does(rt: &impl Abort, alloc: Global, proc: u16, case: &Case<'_>) -> Result<(), Fail> {
+fn built_in_does(
+    rt: &impl Abort,
+    alloc: Global,
+    name: &str,
+    proc: u16,
+    case: &Case<'_>,
+) -> Result<(), Fail> {
     let rows = rows_of(rt, alloc, case.rows)?;
     let procs = Procs::new(alloc);
     let ran = run(
@@ -135,7 +156,7 @@ fn built_in_does(rt: &impl Abort, alloc: Global, proc: u16, case: &Case<'_>) -> 
         &call_of(proc, case.args),
         rows.as_slice(),
     )?;
-    has_done(rt, alloc, &ran, case)
+    has_done(rt, alloc, name, &ran, case)
 }
 
 /// After this step register 0 holds this, or the step refuses.
@@ -149,229 +170,406 @@ fn gives(rt: &impl Abort, alloc: Global, step: Plain, wanted: Option<Word>) -> R
     Ok(ran.reply == reply_of(rt, reply))
 }
 
-/// Each of these steps gives its result, or refuses.
-fn all_give(
-    rt: &impl Abort,
-    alloc: Global,
-    rows: &[(Sum, Word, Word, Option<Word>)],
-) -> Result<(), Fail> {
-    for (i, (sum, left, right, wanted)) in rows.iter().enumerate() {
-        let step = Plain::Sum(*sum, 0, *left, *right);
-        assert!(rt; gives(rt, alloc, step, *wanted)?, "row {i}");
-    }
-    Ok(())
+/// Texts of 32, 64 and 65 bytes.
+const HALF: &str = "0123456789abcdef0123456789abcdef";
+
+const WHOLE: &str = "0123456789abcdef0123456789abcdef0123456789abcdef0123456789abcdef";
+
+const PAST: &str = "0123456789abcdef0123456789abcdef0123456789abcdef0123456789abcdefg";
+
+#[test]
+fn texts_have_at_most_64_bytes(rt: HostRuntime) {
+    assert!(rt; Text64::of(PAST).is_none());
 }
 
-/// Sums of numbers, at the ends of their range too.
-const SUMS: [(Sum, i64, i64, Option<i64>); 16] = [
-    (Sum::Add, 1, 2, Some(3)),
-    (Sum::Add, i64::MAX - 1, 1, Some(i64::MAX)),
-    (Sum::Add, i64::MAX, 1, None),
-    (Sum::Add, i64::MIN, -1, None),
-    (Sum::Sub, 5, 7, Some(-2)),
-    (Sum::Sub, i64::MIN, 0, Some(i64::MIN)),
-    (Sum::Sub, i64::MIN, 1, None),
-    (Sum::Sub, 0, i64::MIN, None),
-    (Sum::Mul, -1, i64::MAX, Some(-9_223_372_036_854_775_807)),
-    (Sum::Mul, i64::MIN, -1, None),
+/// A step, and what register 0 holds after it, unless the step refuses.
+static GIVES: [(Plain, Option<Word>); 53] = [
+    // sums of numbers, at the ends of their range too
     (
-        Sum::Mul,
-        3_037_000_499,
-        3_037_000_499,
-        Some(9_223_372_030_926_249_001),
+        Plain::Sum(Sum::Add, 0, Number(1), Number(2)),
+        Some(Number(3)),
     ),
-    (Sum::Mul, 3_037_000_500, 3_037_000_500, None),
-    (Sum::Min, 2, -3, Some(-3)),
-    (Sum::Min, i64::MIN, i64::MAX, Some(i64::MIN)),
-    (Sum::Max, 2, -3, Some(2)),
-    (Sum::Max, i64::MIN, i64::MAX, Some(i64::MAX)),
+    (
+        Plain::Sum(Sum::Add, 0, Number(i64::MAX - 1), Number(1)),
+        Some(Number(i64::MAX)),
+    ),
+    (Plain::Sum(Sum::Add, 0, Number(i64::MAX), Number(1)), None),
+    (Plain::Sum(Sum::Add, 0, Number(i64::MIN), Number(-1)), None),
+    (
+        Plain::Sum(Sum::Sub, 0, Number(5), Number(7)),
+        Some(Number(-2)),
+    ),
+    (
+        Plain::Sum(Sum::Sub, 0, Number(i64::MIN), Number(0)),
+        Some(Number(i64::MIN)),
+    ),
+    (Plain::Sum(Sum::Sub, 0, Number(i64::MIN), Number(1)), None),
+    (Plain::Sum(Sum::Sub, 0, Number(0), Number(i64::MIN)), None),
+    (
+        Plain::Sum(Sum::Mul, 0, Number(-1), Number(i64::MAX)),
+        Some(Number(-9_223_372_036_854_775_807)),
+    ),
+    (Plain::Sum(Sum::Mul, 0, Number(i64::MIN), Number(-1)), None),
+    (
+        Plain::Sum(Sum::Mul, 0, Number(3_037_000_499), Number(3_037_000_499)),
+        Some(Number(9_223_372_030_926_249_001)),
+    ),
+    (
+        Plain::Sum(Sum::Mul, 0, Number(3_037_000_500), Number(3_037_000_500)),
+        None,
+    ),
+    (
+        Plain::Sum(Sum::Min, 0, Number(2), Number(-3)),
+        Some(Number(-3)),
+    ),
+    (
+        Plain::Sum(Sum::Min, 0, Number(i64::MIN), Number(i64::MAX)),
+        Some(Number(i64::MIN)),
+    ),
+    (
+        Plain::Sum(Sum::Max, 0, Number(2), Number(-3)),
+        Some(Number(2)),
+    ),
+    (
+        Plain::Sum(Sum::Max, 0, Number(i64::MIN), Number(i64::MAX)),
+        Some(Number(i64::MAX)),
+    ),
+    // sums of what is no number
+    (Plain::Sum(Sum::Add, 0, Text("1"), Number(1)), None),
+    (Plain::Sum(Sum::Add, 0, Number(1), Absent), None),
+    (Plain::Sum(Sum::Sub, 0, Absent, Number(1)), None),
+    (Plain::Sum(Sum::Sub, 0, Number(1), Text("1")), None),
+    (Plain::Sum(Sum::Mul, 0, Text("2"), Number(2)), None),
+    (Plain::Sum(Sum::Mul, 0, Number(0), Absent), None),
+    (Plain::Sum(Sum::Min, 0, Number(1), Absent), None),
+    (Plain::Sum(Sum::Max, 0, Text("a"), Text("b")), None),
+    // joined texts have at most 64 bytes
+    (
+        Plain::Sum(Sum::Cat, 0, Text(HALF), Text(HALF)),
+        Some(Text(WHOLE)),
+    ),
+    (Plain::Sum(Sum::Cat, 0, Text(""), Text("")), Some(Text(""))),
+    (Plain::Sum(Sum::Cat, 0, Text(WHOLE), Text("g")), None),
+    (Plain::Sum(Sum::Cat, 0, Text("a"), Number(1)), None),
+    (Plain::Sum(Sum::Cat, 0, Absent, Text("a")), None),
+    // a comparison that is needed goes on with no value in register 0, or refuses
+    (
+        Plain::Need(Number(1), Compare::Equal, Number(1)),
+        Some(Absent),
+    ),
+    (Plain::Need(Number(1), Compare::Equal, Number(2)), None),
+    (
+        Plain::Need(Text("a"), Compare::Equal, Text("a")),
+        Some(Absent),
+    ),
+    (Plain::Need(Text("a"), Compare::Equal, Absent), None),
+    (Plain::Need(Absent, Compare::Equal, Absent), Some(Absent)),
+    (
+        Plain::Need(Number(1), Compare::NotEqual, Text("1")),
+        Some(Absent),
+    ),
+    (Plain::Need(Number(1), Compare::NotEqual, Number(1)), None),
+    (
+        Plain::Need(Number(1), Compare::Less, Number(2)),
+        Some(Absent),
+    ),
+    (Plain::Need(Number(2), Compare::Less, Number(2)), None),
+    (Plain::Need(Text("a"), Compare::Less, Text("b")), None),
+    (
+        Plain::Need(Number(2), Compare::AtMost, Number(2)),
+        Some(Absent),
+    ),
+    (Plain::Need(Number(3), Compare::AtMost, Number(2)), None),
+    (Plain::Need(Absent, Compare::AtMost, Absent), None),
+    (Plain::Need(Text("a"), Compare::AtMost, Text("a")), None),
+    (Plain::Need(Text("b"), Compare::Greater, Text("a")), None),
+    (Plain::Need(Text("a"), Compare::AtLeast, Text("a")), None),
+    (Plain::Need(Number(1), Compare::AtLeast, Absent), None),
+    (
+        Plain::Need(Number(3), Compare::Greater, Number(2)),
+        Some(Absent),
+    ),
+    (Plain::Need(Number(2), Compare::Greater, Number(2)), None),
+    (
+        Plain::Need(Number(2), Compare::AtLeast, Number(2)),
+        Some(Absent),
+    ),
+    (Plain::Need(Number(1), Compare::AtLeast, Number(2)), None),
+    // rows are named by numbers alone
+    (Plain::Get(0, Text("a")), None),
+    (Plain::Put(Absent, Number(1)), None),
+    (Plain::Del(Text("a")), None),
 ];
 
 #[test]
-fn arithmetic_refuses_outside_i64(rt: HostRuntime) -> Result<(), Fail> {
-    for (i, (sum, left, right, wanted)) in SUMS.iter().enumerate() {
-        let step = Plain::Sum(*sum, 0, Number(*left), Number(*right));
-        let wanted = match wanted {
-            Some(number) => Some(Number(*number)),
-            None => None,
-        };
-        assert!(rt; gives(&rt, rt.alloc(), step, wanted)?, "row {i}");
+fn steps_give_values_or_refuse(rt: HostRuntime) -> Result<(), Fail> {
+    for (row, (step, wanted)) in GIVES.iter().enumerate() {
+        assert!(rt; gives(&rt, rt.alloc(), *step, *wanted)?, "row {row}");
     }
     Ok(())
 }
 
-#[test]
-fn arithmetic_refuses_what_is_no_number(rt: HostRuntime) -> Result<(), Fail> {
-    let rows = [
-        (Sum::Add, Text("1"), Number(1), None),
-        (Sum::Add, Number(1), Absent, None),
-        (Sum::Sub, Absent, Number(1), None),
-        (Sum::Sub, Number(1), Text("1"), None),
-        (Sum::Mul, Text("2"), Number(2), None),
-        (Sum::Mul, Number(0), Absent, None),
-        (Sum::Min, Number(1), Absent, None),
-        (Sum::Max, Text("a"), Text("b"), None),
-    ];
-    all_give(&rt, rt.alloc(), &rows)
+/// What is called.
+#[derive(Clone, Copy)]
+enum Procedure {
+    /// A procedure of these steps, which takes as many arguments as are given.
+    Steps(&'static [Plain]),
+    /// One that every system has.
+    BuiltIn(u16),
 }
 
-#[test]
-fn joined_texts_have_at_most_64_bytes(rt: HostRuntime) -> Result<(), Fail> {
-    let half = "0123456789abcdef0123456789abcdef";
-    let whole = "0123456789abcdef0123456789abcdef0123456789abcdef0123456789abcdef";
-    let past = "0123456789abcdef0123456789abcdef0123456789abcdef0123456789abcdefg";
-    assert!(rt; Text64::of(past).is_none());
-    let rows = [
-        (Sum::Cat, Text(half), Text(half), Some(Text(whole))),
-        (Sum::Cat, Text(""), Text(""), Some(Text(""))),
-        (Sum::Cat, Text(whole), Text("g"), None),
-        (Sum::Cat, Text("a"), Number(1), None),
-        (Sum::Cat, Absent, Text("a"), None),
-    ];
-    all_give(&rt, rt.alloc(), &rows)
-}
-
-/// Comparisons, and whether each holds.
-const COMPARISONS: [(Word, Compare, Word, bool); 21] = [
-    (Number(1), Compare::Equal, Number(1), true),
-    (Number(1), Compare::Equal, Number(2), false),
-    (Text("a"), Compare::Equal, Text("a"), true),
-    (Text("a"), Compare::Equal, Absent, false),
-    (Absent, Compare::Equal, Absent, true),
-    (Number(1), Compare::NotEqual, Text("1"), true),
-    (Number(1), Compare::NotEqual, Number(1), false),
-    (Number(1), Compare::Less, Number(2), true),
-    (Number(2), Compare::Less, Number(2), false),
-    (Text("a"), Compare::Less, Text("b"), false),
-    (Number(2), Compare::AtMost, Number(2), true),
-    (Number(3), Compare::AtMost, Number(2), false),
-    (Absent, Compare::AtMost, Absent, false),
-    (Text("a"), Compare::AtMost, Text("a"), false),
-    (Text("b"), Compare::Greater, Text("a"), false),
-    (Text("a"), Compare::AtLeast, Text("a"), false),
-    (Number(1), Compare::AtLeast, Absent, false),
-    (Number(3), Compare::Greater, Number(2), true),
-    (Number(2), Compare::Greater, Number(2), false),
-    (Number(2), Compare::AtLeast, Number(2), true),
-    (Number(1), Compare::AtLeast, Number(2), false),
+/// Replies with 2 if both arguments are 1, else with 0; writes row 6 if the first one is, and row 9 always.
+const SKIPS: &[Plain] = &[
+    Plain::Reply(Number(0)),
+    Plain::When(Argument(1), Compare::Equal, Number(1)),
+    Plain::When(Argument(2), Compare::Equal, Number(1)),
+    Plain::Reply(Number(2)),
+    Plain::Done,
+    Plain::Put(Number(6), Number(1)),
+    Plain::Done,
+    Plain::Put(Number(9), Number(5)),
 ];
 
-/// A step that needs this comparison goes on with no value in register 0, or refuses.
-#[test]
-fn comparisons_hold_or_refuse(rt: HostRuntime) -> Result<(), Fail> {
-    for (i, (left, how, right, holds)) in COMPARISONS.iter().enumerate() {
-        let wanted = if *holds { Some(Absent) } else { None };
-        let step = Plain::Need(*left, *how, *right);
-        assert!(rt; gives(&rt, rt.alloc(), step, wanted)?, "row {i}");
-    }
-    Ok(())
-}
+/// In words what is shown, what is called, and what it is to do.
+static CASES: [(&str, Procedure, Case<'static>); 18] = [
+    (
+        "when skips nothing",
+        Procedure::Steps(SKIPS),
+        Case {
+            args: &[1, 1],
+            rows: &[],
+            reply: Ok(Number(2)),
+            reads: &[],
+            writes: &[(6, Number(1)), (9, Number(5))],
+        },
+    ),
+    (
+        "when skips to its own done",
+        Procedure::Steps(SKIPS),
+        Case {
+            args: &[1, 0],
+            rows: &[],
+            reply: Ok(Number(0)),
+            reads: &[],
+            writes: &[(6, Number(1)), (9, Number(5))],
+        },
+    ),
+    (
+        "when skips over the done of another one",
+        Procedure::Steps(SKIPS),
+        Case {
+            args: &[0, 1],
+            rows: &[],
+            reply: Ok(Number(0)),
+            reads: &[],
+            writes: &[(9, Number(5))],
+        },
+    ),
+    (
+        "when refuses what it cannot compare",
+        Procedure::Steps(&[
+            Plain::When(Text("a"), Compare::Less, Number(1)),
+            Plain::Done,
+        ]),
+        Case {
+            args: &[],
+            rows: &[],
+            reply: Err(1),
+            reads: &[],
+            writes: &[],
+        },
+    ),
+    (
+        "own writes are read and reads asked again",
+        Procedure::Steps(&[
+            Plain::Get(1, Number(1)),
+            Plain::Get(2, Number(1)),
+            Plain::Put(Number(1), Number(9)),
+            Plain::Get(3, Number(1)),
+            Plain::Sum(Sum::Add, 0, Register(2), Register(3)),
+            Plain::Del(Number(1)),
+            Plain::Get(4, Number(1)),
+            Plain::Need(Register(4), Compare::Equal, Absent),
+            Plain::Reply(Register(0)),
+        ]),
+        Case {
+            args: &[],
+            rows: &[(1, Number(7))],
+            reply: Ok(Number(16)),
+            reads: &[1, 1],
+            writes: &[(1, Absent)],
+        },
+    ),
+    (
+        "a refusal keeps reads and no writes",
+        Procedure::Steps(&[
+            Plain::Get(0, Number(1)),
+            Plain::Put(Number(1), Number(5)),
+            Plain::Get(1, Number(2)),
+            Plain::Need(Register(0), Compare::Equal, Register(1)),
+        ]),
+        Case {
+            args: &[],
+            rows: &[(1, Number(7))],
+            reply: Err(4),
+            reads: &[1, 2],
+            writes: &[],
+        },
+    ),
+    (
+        "an absent value is written",
+        Procedure::Steps(&[Plain::Put(Number(5), Absent)]),
+        Case {
+            args: &[],
+            rows: &[],
+            reply: Ok(Absent),
+            reads: &[],
+            writes: &[(5, Absent)],
+        },
+    ),
+    (
+        "put writes one row",
+        Procedure::BuiltIn(PUT),
+        Case {
+            args: &[0, 5, 2],
+            rows: &[(5, Number(7))],
+            reply: Ok(Absent),
+            reads: &[],
+            writes: &[(5, Number(2))],
+        },
+    ),
+    (
+        "del writes one row",
+        Procedure::BuiltIn(DEL),
+        Case {
+            args: &[0, 5],
+            rows: &[(5, Number(7))],
+            reply: Ok(Absent),
+            reads: &[],
+            writes: &[(5, Absent)],
+        },
+    ),
+    (
+        "add reads one row and writes it",
+        Procedure::BuiltIn(ADD),
+        Case {
+            args: &[0, 5, 2],
+            rows: &[(5, Number(7))],
+            reply: Ok(Number(9)),
+            reads: &[5],
+            writes: &[(5, Number(9))],
+        },
+    ),
+    (
+        "get reads one row",
+        Procedure::BuiltIn(GET),
+        Case {
+            args: &[0, 5],
+            rows: &[(5, Number(7))],
+            reply: Ok(Number(7)),
+            reads: &[5],
+            writes: &[],
+        },
+    ),
+    (
+        "add to no value",
+        Procedure::BuiltIn(ADD),
+        Case {
+            args: &[0, 5, 2],
+            rows: &[(5, Absent)],
+            reply: Ok(Number(2)),
+            reads: &[5],
+            writes: &[(5, Number(2))],
+        },
+    ),
+    (
+        "add up to the last number",
+        Procedure::BuiltIn(ADD),
+        Case {
+            args: &[0, 5, 2],
+            rows: &[(5, Number(i64::MAX - 2))],
+            reply: Ok(Number(i64::MAX)),
+            reads: &[5],
+            writes: &[(5, Number(i64::MAX))],
+        },
+    ),
+    (
+        "add past the last number",
+        Procedure::BuiltIn(ADD),
+        Case {
+            args: &[0, 5, 2],
+            rows: &[(5, Number(i64::MAX - 1))],
+            reply: Err(1),
+            reads: &[5],
+            writes: &[],
+        },
+    ),
+    (
+        "add past the first number",
+        Procedure::BuiltIn(ADD),
+        Case {
+            args: &[0, 5, -1],
+            rows: &[(5, Number(i64::MIN))],
+            reply: Err(1),
+            reads: &[5],
+            writes: &[],
+        },
+    ),
+    (
+        "add to a text",
+        Procedure::BuiltIn(ADD),
+        Case {
+            args: &[0, 5, 2],
+            rows: &[(5, Text("7"))],
+            reply: Err(1),
+            reads: &[5],
+            writes: &[],
+        },
+    ),
+    (
+        "a transfer moves",
+        Procedure::Steps(TRANSFER),
+        Case {
+            args: &[1, 2, 30],
+            rows: &[(1, Number(100)), (2, Number(50))],
+            reply: Ok(Number(70)),
+            reads: &[1, 2],
+            writes: &[(1, Number(70)), (2, Number(80))],
+        },
+    ),
+    (
+        "a transfer is refused",
+        Procedure::Steps(TRANSFER),
+        Case {
+            args: &[1, 2, 80],
+            rows: &[(1, Number(70)), (2, Number(80))],
+            reply: Err(2),
+            reads: &[1],
+            writes: &[],
+        },
+    ),
+];
 
-#[test]
-fn rows_are_named_by_numbers_alone(rt: HostRuntime) -> Result<(), Fail> {
-    let steps = [
-        Plain::Get(0, Text("a")),
-        Plain::Put(Absent, Number(1)),
-        Plain::Del(Text("a")),
-    ];
-    for (i, step) in steps.iter().enumerate() {
-        assert!(rt; gives(&rt, rt.alloc(), *step, None)?, "row {i}");
-    }
-    Ok(())
-}
-
-/// A procedure of these steps replies this number and writes these rows.
-fn writes(
+/// What is called does what it is to do.
+fn does_as_stated(
     rt: &impl Abort,
     alloc: Global,
-    steps: &[Plain],
-    args: &[i64],
-    reply: i64,
-    writes: &[(i64, Word)],
+    name: &str,
+    procedure: Procedure,
+    case: &Case<'_>,
 ) -> Result<(), Fail> {
-    let case = Case {
-        args,
-        rows: &[],
-        reply: Ok(Number(reply)),
-        reads: &[],
-        writes,
-    };
-    does(rt, alloc, steps, &case)
+    match procedure {
+        Procedure::Steps(steps) => does(rt, alloc, name, steps, case),
+        Procedure::BuiltIn(proc) => built_in_does(rt, alloc, name, proc, case),
+    }
 }
 
 #[test]
-fn when_skips_to_its_own_done(rt: HostRuntime) -> Result<(), Fail> {
-    let steps = [
-        Plain::Reply(Number(0)),
-        Plain::When(Argument(1), Compare::Equal, Number(1)),
-        Plain::When(Argument(2), Compare::Equal, Number(1)),
-        Plain::Reply(Number(2)),
-        Plain::Done,
-        Plain::Put(Number(6), Number(1)),
-        Plain::Done,
-        Plain::Put(Number(9), Number(5)),
-    ];
-    let both = [(6, Number(1)), (9, Number(5))];
-    writes(&rt, rt.alloc(), &steps, &[1, 1], 2, &both)?;
-    writes(&rt, rt.alloc(), &steps, &[1, 0], 0, &both)?;
-    writes(&rt, rt.alloc(), &steps, &[0, 1], 0, &[(9, Number(5))])
-}
-
-#[test]
-fn when_refuses_what_it_cannot_compare(rt: HostRuntime) -> Result<(), Fail> {
-    let steps = [
-        Plain::When(Text("a"), Compare::Less, Number(1)),
-        Plain::Done,
-    ];
-    let case = Case {
-        args: &[],
-        rows: &[],
-        reply: Err(1),
-        reads: &[],
-        writes: &[],
-    };
-    does(&rt, rt.alloc(), &steps, &case)
-}
-
-#[test]
-fn own_writes_are_read_and_reads_asked_again(rt: HostRuntime) -> Result<(), Fail> {
-    let steps = [
-        Plain::Get(1, Number(1)),
-        Plain::Get(2, Number(1)),
-        Plain::Put(Number(1), Number(9)),
-        Plain::Get(3, Number(1)),
-        Plain::Sum(Sum::Add, 0, Register(2), Register(3)),
-        Plain::Del(Number(1)),
-        Plain::Get(4, Number(1)),
-        Plain::Need(Register(4), Compare::Equal, Absent),
-        Plain::Reply(Register(0)),
-    ];
-    let case = Case {
-        args: &[],
-        rows: &[(1, Number(7))],
-        reply: Ok(Number(16)),
-        reads: &[1, 1],
-        writes: &[(1, Absent)],
-    };
-    does(&rt, rt.alloc(), &steps, &case)
-}
-
-#[test]
-fn a_refusal_keeps_reads_and_no_writes(rt: HostRuntime) -> Result<(), Fail> {
-    let steps = [
-        Plain::Get(0, Number(1)),
-        Plain::Put(Number(1), Number(5)),
-        Plain::Get(1, Number(2)),
-        Plain::Need(Register(0), Compare::Equal, Register(1)),
-    ];
-    let case = Case {
-        args: &[],
-        rows: &[(1, Number(7))],
-        reply: Err(4),
-        reads: &[1, 2],
-        writes: &[],
-    };
-    does(&rt, rt.alloc(), &steps, &case)
+fn procedures_do_as_stated(rt: HostRuntime) -> Result<(), Fail> {
+    for (name, procedure, case) in &CASES {
+        does_as_stated(&rt, rt.alloc(), name, *procedure, case)?;
+    }
+    Ok(())
 }
 
 /// These rows, and steps that put a number into each of them from the last one to the first.
@@ -395,139 +593,7 @@ fn sixty_four_writes_ascend(rt: HostRuntime) -> Result<(), Fail> {
         reads: &[],
         writes: rows.as_slice(),
     };
-    does(&rt, rt.alloc(), steps.as_slice(), &case)
-}
-
-#[test]
-fn an_absent_value_is_written(rt: HostRuntime) -> Result<(), Fail> {
-    let steps = [Plain::Put(Number(5), Absent)];
-    let case = Case {
-        args: &[],
-        rows: &[],
-        reply: Ok(Absent),
-        reads: &[],
-        writes: &[(5, Absent)],
-    };
-    does(&rt, rt.alloc(), &steps, &case)
-}
-
-#[test]
-fn built_ins_write_one_row(rt: HostRuntime) -> Result<(), Fail> {
-    let put = Case {
-        args: &[0, 5, 2],
-        rows: &[(5, Number(7))],
-        reply: Ok(Absent),
-        reads: &[],
-        writes: &[(5, Number(2))],
-    };
-    built_in_does(&rt, rt.alloc(), PUT, &put)?;
-    let del = Case {
-        args: &[0, 5],
-        rows: &[(5, Number(7))],
-        reply: Ok(Absent),
-        reads: &[],
-        writes: &[(5, Absent)],
-    };
-    built_in_does(&rt, rt.alloc(), DEL, &del)
-}
-
-#[test]
-fn built_ins_read_one_row(rt: HostRuntime) -> Result<(), Fail> {
-    let add = Case {
-        args: &[0, 5, 2],
-        rows: &[(5, Number(7))],
-        reply: Ok(Number(9)),
-        reads: &[5],
-        writes: &[(5, Number(9))],
-    };
-    built_in_does(&rt, rt.alloc(), ADD, &add)?;
-    let get = Case {
-        args: &[0, 5],
-        rows: &[(5, Number(7))],
-        reply: Ok(Number(7)),
-        reads: &[5],
-        writes: &[],
-    };
-    built_in_does(&rt, rt.alloc(), GET, &get)
-}
-
-/// To add a number to row 5, which holds this, replies so and writes these rows.
-fn adds(
-    rt: &impl Abort,
-    alloc: Global,
-    held: Word,
-    number: i64,
-    reply: Result<Word, u16>,
-    writes: &[(i64, Word)],
-) -> Result<(), Fail> {
-    let args = [0, 5, number];
-    let rows = [(5, held)];
-    let case = Case {
-        args: &args,
-        rows: &rows,
-        reply,
-        reads: &[5],
-        writes,
-    };
-    built_in_does(rt, alloc, ADD, &case)
-}
-
-/// The sum is given and written, or the call refuses and writes nothing.
-fn adds_to(
-    rt: &impl Abort,
-    alloc: Global,
-    held: Word,
-    number: i64,
-    wanted: Option<i64>,
-) -> Result<(), Fail> {
-    match wanted {
-        Some(sum) => adds(
-            rt,
-            alloc,
-            held,
-            number,
-            Ok(Number(sum)),
-            &[(5, Number(sum))],
-        ),
-        None => adds(rt, alloc, held, number, Err(1), &[]),
-    }
-}
-
-#[test]
-fn add_refuses_texts_and_sums_outside_i64(rt: HostRuntime) -> Result<(), Fail> {
-    let rows = [
-        (Absent, 2, Some(2)),
-        (Number(i64::MAX - 2), 2, Some(i64::MAX)),
-        (Number(i64::MAX - 1), 2, None),
-        (Number(i64::MIN), -1, None),
-        (Text("7"), 2, None),
-    ];
-    for (held, number, wanted) in rows {
-        adds_to(&rt, rt.alloc(), held, number, wanted)?;
-    }
-    Ok(())
-}
-
-#[test]
-fn transfers_move_or_refuse(rt: HostRuntime) -> Result<(), Fail> {
-    let steps = transfer();
-    let after = [(1, Number(70)), (2, Number(80))];
-    let moved = Case {
-        args: &[1, 2, 30],
-        rows: &[(1, Number(100)), (2, Number(50))],
-        reply: Ok(Number(70)),
-        reads: &[1, 2],
-        writes: &after,
-    };
-    does(&rt, rt.alloc(), &steps, &moved)?;
-    let refused = Case {
-        args: &[1, 2, 80],
-        rows: &after,
-        reply: Err(2),
-        reads: &[1],
-        writes: &[],
-    };
-    does(&rt, rt.alloc(), &steps, &refused)
+    does(&rt, rt.alloc(), "64 writes", steps.as_slice(), &case)
 }
 
 /// Whether a call with these arguments can be executed.
@@ -541,25 +607,27 @@ fn takes(rt: &impl Abort, procs: &Procs, proc: u16, args: &[Word]) -> bool {
     procs.takes(&Call { proc, args: list })
 }
 
+/// A procedure, arguments, and whether a call of it with these can be executed.
+static TAKEN: [(u16, &[Word], bool); 13] = [
+    (PUT, &[Number(65_535), Number(1), Absent], true),
+    (PUT, &[Number(65_536), Number(1), Absent], false),
+    (PUT, &[Number(-1), Number(1), Absent], false),
+    (PUT, &[Number(0), Number(1)], false),
+    (ADD, &[Number(0), Number(1), Number(2)], true),
+    (ADD, &[Number(0), Number(1), Absent], false),
+    (GET, &[Number(0), Number(1)], true),
+    (GET, &[Number(0), Absent], false),
+    (DEL, &[Number(0), Number(1)], true),
+    (DEL, &[Number(0)], false),
+    (FIRST_DECLARED, &[Absent], true),
+    (FIRST_DECLARED, &[], false),
+    (FIRST_DECLARED + 1, &[Absent], false),
+];
+
 #[test]
 fn calls_have_their_arguments(rt: HostRuntime) -> Result<(), Fail> {
     let procs = declared(&rt, rt.alloc(), "one", 1, &[Plain::Reply(Argument(1))])?;
-    let rows = [
-        (PUT, [Number(65_535), Number(1), Absent].as_slice(), true),
-        (PUT, &[Number(65_536), Number(1), Absent], false),
-        (PUT, &[Number(-1), Number(1), Absent], false),
-        (PUT, &[Number(0), Number(1)], false),
-        (ADD, &[Number(0), Number(1), Number(2)], true),
-        (ADD, &[Number(0), Number(1), Absent], false),
-        (GET, &[Number(0), Number(1)], true),
-        (GET, &[Number(0), Absent], false),
-        (DEL, &[Number(0), Number(1)], true),
-        (DEL, &[Number(0)], false),
-        (FIRST_DECLARED, &[Absent], true),
-        (FIRST_DECLARED, &[], false),
-        (FIRST_DECLARED + 1, &[Absent], false),
-    ];
-    for (i, (proc, args, wanted)) in rows.iter().enumerate() {
+    for (i, (proc, args, wanted)) in TAKEN.iter().enumerate() {
         assert!(rt; takes(&rt, &procs, *proc, args) == *wanted, "row {i}");
     }
     Ok(())
@@ -584,21 +652,25 @@ fn what_is_wanted_is_put_in_its_place(rt: HostRuntime) {
     wants_row(&rt, rt.alloc(), &call, key(3));
 }
 
+const OPEN: Plain = Plain::When(Number(1), Compare::Equal, Number(1));
+
+const REPLY: Plain = Plain::Reply(Number(1));
+
+/// Steps of a procedure of two arguments, and whether it is well formed.
+static FORMED: [(&[Plain], bool); 8] = [
+    (&[Plain::Get(15, Argument(2)), REPLY], true),
+    (&[Plain::Get(16, Number(1)), REPLY], false),
+    (&[Plain::Get(0, Register(16)), REPLY], false),
+    (&[Plain::Get(0, Argument(3)), REPLY], false),
+    (&[Plain::Get(0, Argument(0)), REPLY], false),
+    (&[OPEN, Plain::Done], true),
+    (&[Plain::Done, OPEN], false),
+    (&[OPEN, OPEN], false),
+];
+
 #[test]
 fn only_closed_steps_within_the_limits_are_well_formed(rt: HostRuntime) -> Result<(), Fail> {
-    let open = Plain::When(Number(1), Compare::Equal, Number(1));
-    let reply = Plain::Reply(Number(1));
-    let rows = [
-        ([Plain::Get(15, Argument(2)), reply], true),
-        ([Plain::Get(16, Number(1)), reply], false),
-        ([Plain::Get(0, Register(16)), reply], false),
-        ([Plain::Get(0, Argument(3)), reply], false),
-        ([Plain::Get(0, Argument(0)), reply], false),
-        ([open, Plain::Done], true),
-        ([Plain::Done, open], false),
-        ([open, open], false),
-    ];
-    for (i, (steps, wanted)) in rows.iter().enumerate() {
+    for (i, (steps, wanted)) in FORMED.iter().enumerate() {
         let proc = proc_of(&rt, rt.alloc(), "p", 2, steps)?;
         assert!(rt; proc.is_well_formed() == *wanted, "row {i}");
     }

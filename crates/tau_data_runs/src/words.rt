@@ -193,15 +193,13 @@ pub(crate) fn reply_of(rt: &impl Abort, reply: Result<Word, u16>) -> Reply {
 }
 
 /// Moves an amount from a row to another, where the first has enough: a procedure of both rows and the amount.
-pub(crate) fn transfer() -> [Plain; 8] {
-    [
-        Plain::Get(0, Argument(1)),
-        Plain::Need(Register(0), Compare::AtLeast, Argument(3)),
-        Plain::Sum(Sum::Sub, 0, Register(0), Argument(3)),
-        Plain::Get(1, Argument(2)),
-        Plain::Sum(Sum::Add, 1, Register(1), Argument(3)),
-        Plain::Put(Argument(1), Register(0)),
-        Plain::Put(Argument(2), Register(1)),
-        Plain::Reply(Register(0)),
-    ]
-}
+pub(crate) const TRANSFER: &[Plain] = &[
+    Plain::Get(0, Argument(1)),
+    Plain::Need(Register(0), Compare::AtLeast, Argument(3)),
+    Plain::Sum(Sum::Sub, 0, Register(0), Argument(3)),
+    Plain::Get(1, Argument(2)),
+    Plain::Sum(Sum::Add, 1, Register(1), Argument(3)),
+    Plain::Put(Argument(1), Register(0)),
+    Plain::Put(Argument(2), Register(1)),
+    Plain::Reply(Register(0)),
+];
