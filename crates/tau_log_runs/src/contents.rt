@@ -60,10 +60,13 @@ fn holds(
     content: &Content,
     held: &Held,
 ) -> Result<(), Fail> {
-    let found = (content.format, content.count, content.gate_at);
-    assert_eq!(rt; found, (held.0, count_of(held.0), held.2), "{name}");
+    assert!(rt;
+        content.format == held.0 && content.count == count_of(held.0),
+        "{name}"
+    );
+    assert!(rt; content.gate_at == held.2, "{name}");
     let bytes = bytes_of(alloc, held.1)?;
-    assert_eq!(rt; content.bytes.as_slice(), bytes.as_slice(), "{name}");
+    assert!(rt; content.bytes.as_slice() == bytes.as_slice(), "{name}");
     Ok(())
 }
 

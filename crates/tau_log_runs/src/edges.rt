@@ -175,13 +175,15 @@ fn each_cause_of_format_2_at_its_edge(rt: HostRuntime) -> Result<(), Fail> {
     have_causes(&rt, rt.alloc(), WIDE, &second, &WIDE_RECORDS)
 }
 
-/// Stream 0 of two after a second run: epoch 1 with (13,63) at 13, and at 38 the record of its call 1, with this vector.
+/// Stream 0 of two after a second run: epoch 1 with (13,63) at 13, and at 38 the record of its call 1, with this
+/// vector.
 const RUN_TWICE: &str =
     "5441555255532d4c4f472d32 0002 0000 01 0000000d 04 0000000d 7461626c6520610a \
     01 00000019 05 00000019 00000001 000000000000000d 000000000000003f \
     01 0000003a 01 0000003a 0000000000000001 00000000 00000003 000000000000000d 000000000000003f 0001 0000 0000000000000007 01 0000000000000001 00";
 
-/// Stream 1 likewise: at 13 the record of call 2 with the vector (55,0), which the first run left and (13,63) does not cover, and epoch 1 at 63.
+/// Stream 1 likewise: at 13 the record of call 2 with the vector (55,0), which the first run left and (13,63) does
+/// not cover, and epoch 1 at 63.
 const RUN_TWICE_TOO: &str =
     "5441555255532d4c4f472d32 0002 0001 01 0000000d 04 0000000d 7461626c6520610a \
     01 00000032 01 00000032 0000000000000002 00000000 00000001 0000000000000037 0001 0000 0000000000000001 01 0000000000000007 \

@@ -1,9 +1,12 @@
 //! Tables of logs that are read, and what is found in each.
+ghost use Rattle.std.specs.Prelude.{◌≡◌, ◌≤◌, IsTrue, Some};
+ghost use Rattle.tau_base.specs.Modes.{most_streams};
+
 use crate::images::{Image, image_of};
 use std::alloc::Global;
 use std::process::Abort;
 use std::test::*;
-use tau_base::Format;
+use tau_base::{Format, most_streams};
 use tau_block::ImageFault;
 use tau_disk::MemDisk;
 use tau_model::Tables;
@@ -113,11 +116,16 @@ pub(crate) const INDEX: LogCause = LogCause::Image(ImageFault::BadIndex);
 
 pub(crate) const GATE: LogCause = LogCause::Image(ImageFault::OpenGateWithoutBlock);
 
-/// Puts disks with these images last.
+/// Puts a disk with this image last.
+fn put_disk(alloc: Global, disks: &mut Vec<MemDisk>, image: &Image<'_>) -> Result<(), Fail> {
+    let bytes = image_of(alloc, image)?;
+    disks.push(MemDisk::of_image(alloc, bytes.as_slice())?)?;
+    Ok(())
+}
+
 fn put_disks(alloc: Global, disks: &mut Vec<MemDisk>, images: &[Image<'_>]) -> Result<(), Fail> {
     for image in images {
-        let bytes = image_of(alloc, image)?;
-        disks.push(MemDisk::of_image(alloc, bytes.as_slice())?)?;
+        put_disk(alloc, disks, image)?;
     }
     Ok(())
 }
@@ -129,16 +137,17 @@ pub(crate) fn disks_of(alloc: Global, images: &[Image<'_>]) -> Result<Vec<MemDis
 }
 
 fn many(alloc: Global, n: u8, first: &Image<'_>) -> Result<Vec<MemDisk>, Fail> {
-    let mut disks = disks_of(alloc, &[*first])?;
+    let mut disks = Vec::new(alloc);
+    put_disk(alloc, &mut disks, first)?;
     for j in 1..n {
-        let bytes = image_of(alloc, &Image::Catalogue(b'2', n, j))?;
-        disks.push(MemDisk::of_image(alloc, bytes.as_slice())?)?;
+        put_disk(alloc, &mut disks, &Image::Catalogue(b'2', n, j))?;
     }
     Ok(disks)
 }
 
 fn failing(alloc: Global, first: &str, second: u32, third: u32) -> Result<Vec<MemDisk>, Fail> {
-    let mut disks = disks_of(alloc, &[Image::Whole(first)])?;
+    let mut disks = Vec::new(alloc);
+    put_disk(alloc, &mut disks, &Image::Whole(first))?;
     disks.push(MemDisk::new(alloc, &[second])?)?;
     disks.push(MemDisk::new(alloc, &[third])?)?;
     Ok(disks)
@@ -153,25 +162,26 @@ fn streams_of(alloc: Global, streams: &Streams) -> Result<Vec<MemDisk>, Fail> {
     }
 }
 
+/// Whether so many streams are streams of the format that is asked, or of any.
+fn has_room(asked: Option<Format>, count: usize) -> bool
+    ensures { IsTrue result → (f : _) → asked ≡ Some f → count ≤ most_streams f }
+{
+    match asked {
+        None => true,
+        Some(format) => count <= most_streams(format),
+    }
+}
+
 /// What these disks hold together, or why there is no log, when a format is asked that has room for them, or none.
-pub(crate) fn read(
+fn read(
     alloc: Global,
     disks: &mut [MemDisk],
     asked: Option<Format>,
 ) -> Result<Result<Log, ScanRefusal>, Fail> {
-    if disks.is_empty() || disks.len() > 32 {
+    if disks.is_empty() || disks.len() > 32 || !has_room(asked, disks.len()) {
         return Err(Fail::from("no number of streams"));
     }
-    match asked {
-        None => Ok(scan(alloc, disks, None)),
-        Some(Format::Two) => Ok(scan(alloc, disks, Some(Format::Two))),
-        Some(Format::One) => {
-            if disks.len() > 16 {
-                return Err(Fail::from("too many streams"));
-            }
-            Ok(scan(alloc, disks, Some(Format::One)))
-        }
-    }
+    Ok(scan(alloc, disks, asked))
 }
 
 /// Checks a vector.
@@ -287,7 +297,8 @@ pub(crate) fn have_causes(
     edges: &[Edge],
 ) -> Result<(), Fail> {
     for (at, byte, cause) in edges {
-        let mut disks = disks_of(alloc, &[Image::Byte(first, *at, *byte)])?;
+        let mut disks = Vec::new(alloc);
+        put_disk(alloc, &mut disks, &Image::Byte(first, *at, *byte))?;
         put_disks(alloc, &mut disks, others)?;
         let found = cause_of(&read(alloc, disks.as_mut_slice(), None)?)?;
         assert_eq!(rt; found, in_first(*cause), "byte {at} set to {byte}");

@@ -7,6 +7,7 @@ use crate::logs::disks_of;
 use std::alloc::Global;
 use std::process::Abort;
 use std::test::*;
+use tau_disk::MemDisk;
 use tau_pool::{Next, Pools};
 use tau_scan::{Log, scan};
 
@@ -24,23 +25,23 @@ const TANGLED_TOO: &str =
     "5441555255532d4c4f472d31 0002 0001 01 0000000d 04 0000000d 7461626c6520610a \
     01 00000030 01 00000030 0000000000000002 00000000 0001 000000000000003d 0001 0000 0000000000000002 01 0000000000000006 00";
 
-/// The log of two streams with these digits.
-fn log_of(alloc: Global, first: &str, second: &str) -> Result<Log, Fail>
+/// The log of these disks.
+fn log_of(alloc: Global, disks: &mut [MemDisk]) -> Result<Log, Fail>
     ensures { IfOk result (λ log. IsLog log) }
 {
-    let mut disks = disks_of(alloc, &[Image::Whole(first), Image::Whole(second)])?;
-    if disks.is_empty() || disks.len() > 32 {
+    if disks.is_empty() || disks.len() > 16 {
         return Err(Fail::from("no number of streams"));
     }
-    match scan(alloc, disks.as_mut_slice(), None) {
+    match scan(alloc, disks, None) {
         Ok(log) => Ok(log),
         Err(_) => Err(Fail::from("no log")),
     }
 }
 
-/// The pools of this log.
+/// The pools of the log of two streams with these digits.
 fn pools_of(alloc: Global, first: &str, second: &str) -> Result<Pools, Fail> {
-    let log = log_of(alloc, first, second)?;
+    let mut disks = disks_of(alloc, &[Image::Whole(first), Image::Whole(second)])?;
+    let log = log_of(alloc, disks.as_mut_slice())?;
     match Pools::new(alloc, &log) {
         Ok(pools) => Ok(pools),
         Err(_) => Err(Fail::from("no memory")),
@@ -92,7 +93,7 @@ fn a_record_waits_for_another_stream(rt: HostRuntime) -> Result<(), Fail> {
 #[test]
 fn tangled_records_are_never_ready(rt: HostRuntime) -> Result<(), Fail> {
     let mut pools = pools_of(rt.alloc(), TANGLED, TANGLED_TOO)?;
-    assert_eq!(rt; pools.take(), Next::NotYet);
+    assert!(rt; pools.take() == Next::NotYet);
     assert_eq!(rt; first_left(&pools), (0, 1));
     Ok(())
 }

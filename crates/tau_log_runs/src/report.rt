@@ -160,14 +160,28 @@ static REPORTS: [Report; 4] = [
     ),
 ];
 
+fn text_of_report(
+    alloc: Global,
+    declarations: &str,
+    report: &RunReport,
+    disk: Option<u8>,
+) -> Result<Vec<u8>, Fail> {
+    let declarations = parse_declarations(alloc, declarations.as_bytes())?;
+    Ok(report_text(alloc, &declarations, report, disk)?)
+}
+
+fn reports(rt: &impl Abort, alloc: Global, row: &Report) -> Result<(), Fail> {
+    let (name, declarations, fates, order, rows, disk, wanted) = *row;
+    let report = report_of(alloc, fates, order, rows)?;
+    let text = text_of_report(alloc, declarations, &report, disk)?;
+    is_text(rt, name, text.as_slice(), wanted.as_bytes());
+    Ok(())
+}
+
 #[test]
 fn reports_have_their_texts(rt: HostRuntime) -> Result<(), Fail> {
-    let alloc = rt.alloc();
-    for (name, declarations, fates, order, rows, disk, wanted) in &REPORTS {
-        let declarations = parse_declarations(alloc, declarations.as_bytes())?;
-        let report = report_of(alloc, fates, order, rows)?;
-        let text = report_text(alloc, &declarations, &report, *disk)?;
-        is_text(&rt, name, text.as_slice(), wanted.as_bytes());
+    for row in &REPORTS {
+        reports(&rt, rt.alloc(), row)?;
     }
     Ok(())
 }
@@ -195,13 +209,15 @@ static SHOWN: [Shown; 2] = [
     ),
 ];
 
+fn text_of_tables(alloc: Global, declarations: &str, rows: &[TableRow]) -> Result<Vec<u8>, Fail> {
+    let declarations = parse_declarations(alloc, declarations.as_bytes())?;
+    Ok(table_text(alloc, &declarations, &tables_of(alloc, rows)?)?)
+}
+
 #[test]
 fn tables_have_their_texts(rt: HostRuntime) -> Result<(), Fail> {
-    let alloc = rt.alloc();
     for (name, declarations, rows, wanted) in &SHOWN {
-        let declarations = parse_declarations(alloc, declarations.as_bytes())?;
-        let tables = tables_of(alloc, rows)?;
-        let text = table_text(alloc, &declarations, &tables)?;
+        let text = text_of_tables(rt.alloc(), declarations, rows)?;
         is_text(&rt, name, text.as_slice(), wanted.as_bytes());
     }
     Ok(())
