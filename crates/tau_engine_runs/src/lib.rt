@@ -2,13 +2,19 @@
 #![tactic(auto)]
 
 #[cfg(test)]
+mod bank;
+#[cfg(test)]
 mod faults;
+#[cfg(test)]
+mod mixes;
 #[cfg(test)]
 mod optimistic;
 #[cfg(test)]
 mod reopened;
 #[cfg(test)]
 mod runs;
+#[cfg(test)]
+mod script;
 #[cfg(test)]
 mod stops;
 #[cfg(test)]
