@@ -350,10 +350,14 @@ fn make_room(alloc: Global, block: &mut Vec<u8>, size: usize) -> Result<(), NoMe
     Ok(())
 }
 
-// Removes the first bytes.
+// Removes the first bytes. As a rule that is all there are, and then none is moved.
 fn drop_front(bytes: &mut Vec<u8>, count: usize)
     requires { count ≤ vec_len bytes.old }
     ensures { bytes.new.items ≡ drop count bytes.old.items }
 {
+    if count == bytes.len() {
+        bytes.clear();
+        return;
+    }
     bytes.drain(..count);
 }
