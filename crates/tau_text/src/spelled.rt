@@ -135,8 +135,6 @@ fn magnitude(top: u64, word: &[u8]) -> Option<u64>
     }
 }
 
-/// It is inlined, since most words of a call are numbers.
-#[inline(always)]
 #[tactic(auto, unfolding(crate::specs::Spelled::number))]
 fn number(word: &[u8]) -> Option<i64>
     ensures { result ≡ number word.now }
