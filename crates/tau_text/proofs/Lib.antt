@@ -9,3 +9,5 @@ pub mod Begins
 pub mod Chains
 pub mod Differences
 pub mod Places
+pub mod PlainWords
+pub mod WordLines

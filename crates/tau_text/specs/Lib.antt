@@ -10,3 +10,4 @@ pub mod Kept
 pub mod Causes
 pub mod Puts
 pub mod Places
+pub mod Plain

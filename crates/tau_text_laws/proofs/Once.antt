@@ -7,15 +7,12 @@ use Rattle.tau_proc.specs.declared.step.Compare.{Compare}
 use Rattle.tau_text.specs.declared.fault.TextCause.TheVariants.{BadStep}
 use Rattle.tau_text.specs.Given.{or_else}
 use Rattle.tau_text.specs.Canonical.{operand_word, register_word, compare_word, name_at}
-use Rattle.tau_text.specs.Spelled.{first, ended, whole, count, name, known, new_name, literal, register, operand, compare, turn}
+use Rattle.tau_text.specs.Spelled.{first, ended, count, name, known, new_name, register, operand, compare}
 use Rattle.tau_text.specs.Forms.{room, names_of, table_line, proc_line, get_words, put_words, del_words, sum_words, test_words, reply_words}
 use Rattle.tau_text_laws.proofs.Unique.{was_some, IsPlain, IsWord, count_spells, register_spells, name_spells, known_spells}
 use Rattle.tau_text_laws.proofs.Values.{operand_operates, compare_compares}
 use Rattle.tau_text.proofs.Binds.{bind_ok}
-
-abbrev pub AreWords : List (List ℕ) → Type 0
-AreWords [] = Unit {0}
-AreWords (w ∷ ws) = IsWord w × AreWords ws
+pub use Rattle.tau_text.proofs.WordLines.{AreWords}
 
 -- these words, and no others
 pub record Once (canonical ws : List (List ℕ)) : Type 0 where
