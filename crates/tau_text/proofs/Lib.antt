@@ -11,3 +11,5 @@ pub mod Differences
 pub mod Places
 pub mod PlainWords
 pub mod WordLines
+pub mod OnePass
+pub mod NamesKept

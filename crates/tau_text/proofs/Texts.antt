@@ -1,8 +1,8 @@
 -- Lines of a text, one after the other.
-use Rattle.std.proofs.Common.{◌≡◌, ℕ, ◌+◌, ◌-◌, ◌≤◌, ◌<◌, Bool, true, false, nat_le, List, [], ◌∷◌, length, take, None, Result, Ok, Err, IsUtf8, refl, sym, ◌∙◌, arith}
+use Rattle.std.proofs.Common.{◌≡◌, ℕ, ◌+◌, ◌-◌, ◌≤◌, ◌<◌, true, false, nat_le, List, [], ◌∷◌, length, take, None, Result, Ok, Err, IsUtf8, refl, sym, ap, ◌∙◌, arith}
 use Rattle.std.proofs.lemmas.Grind.{common_steps}
 use Rattle.std.proofs.lemmas.List.{length-take-le}
-use Rattle.std.proofs.lemmas.Str.{is_utf8-from_IsUtf8, IsUtf8-from_is_utf8}
+use Rattle.std.proofs.lemmas.Str.{is_utf8-from_IsUtf8}
 use Rattle.std.specs.Str.{is_utf8}
 use Rattle.tau_base.specs.declared.limits.TheConstants.{MAX_WORKLOAD}
 use Rattle.tau_text.specs.declared.reading.Reading.{Reading}
@@ -15,6 +15,7 @@ use Rattle.tau_text.specs.declared.heads.Head.{Head}
 use Rattle.tau_text.specs.Lines.{lines, body}
 use Rattle.tau_text.specs.Given.{Fails, ◌>>=◌}
 use Rattle.tau_text.specs.Forms.{head}
+use Rattle.tau_text.specs.Quick.{IsLineRead, IsLineBad}
 use Rattle.tau_text.specs.Text.{line_read, lines_read, statement_read, outer_read, is_before, placed}
 use Rattle.tau_text.specs.Kept.{Misses, refusal}
 use Rattle.tau_text.proofs.Names.{not_utf8}
@@ -31,29 +32,48 @@ fits n h = grind (arith, common_steps)
 passes : (n : ℕ) → MAX_WORKLOAD < n → nat_le n MAX_WORKLOAD ≡ false
 passes n h = grind (arith, common_steps)
 
-abbrev pub front : List ℕ → List ℕ → List ℕ
-front r a = take (length r - length a) r
-
 -- where the next line ends, of the text t of which r is left
-past_line : (t r a : List ℕ) → length a < length r → length r ≤ length t → length t - length r + length (front r a) ≡ length t - length a
-past_line t r a lt le = omega (arith, length-take-le (length r - length a) r (omega arith))
+past_line : (t r a l : List ℕ) → length l + length a ≡ length r → length r ≤ length t → length t - length r + length l ≡ length t - length a
+past_line t r a l long le = omega (arith, long, le)
 
-pub reads_on : (s u : Reading) (n : ℕ) (t r a line : List ℕ) → lines r ≡ front r a ∷ lines a → body (front r a) ≡ line → length a < length r → length r ≤ length t → line_read s n line ≡ Ok u → length t - length a ≤ MAX_WORKLOAD
+pub reads_on : (s u : Reading) (n : ℕ) (t r a : List ℕ) → IsLineRead s n r u a → length r ≤ length t → length t - length a ≤ MAX_WORKLOAD
     → lines_read s n (length t - length r) (lines r) ≡ lines_read u (n + 1) (length t - length a) (lines a)
 unfolding lines_read
-reads_on s u n t r a line e f lt le h small = rw (e, f, h, past_line t r a lt le, fits (length t - length a) small) refl
+reads_on s u n t r a q le small = rw (q.cut, q.read, past_line t r a q.line q.long le, fits (length t - length a) small) refl
 
-pub reads_bad : (e : LineRefusal) (s : Reading) (n past : ℕ) (r a line : List ℕ) (total : Result Reading TextFault) → lines r ≡ front r a ∷ lines a → body (front r a) ≡ line → Fails e (line_read s n line) → lines_read s n past (lines r) ≡ total → Misses (refusal n e) total
+pub reads_bad : (e : LineRefusal) (s : Reading) (n past : ℕ) (r : List ℕ) (total : Result Reading TextFault) → IsLineBad e s n r → lines_read s n past (lines r) ≡ total → Misses (refusal n e) total
 unfolding lines_read
-reads_bad of_lines.Memory s n past r a line total e f h so_far = tt
-reads_bad (of_lines.Cause cause) s n past r a line total e f h so_far =
-    let one : lines_read s n past (lines r) ≡ Err (record { line = n; cause = cause }) = rw (e, f, h) refl in
+reads_bad of_lines.Memory s n past r total q so_far = tt
+reads_bad (of_lines.Cause cause) s n past r total q so_far =
+    let one : lines_read s n past (lines r) ≡ Err (record { line = n; cause = cause }) = rw (q.cut, q.fails) refl in
     sym so_far ∙ one
 
-pub reads_long : (s u : Reading) (n : ℕ) (t r a line : List ℕ) → lines r ≡ front r a ∷ lines a → body (front r a) ≡ line → length a < length r → length r ≤ length t → line_read s n line ≡ Ok u → MAX_WORKLOAD < length t - length a
+pub reads_long : (s u : Reading) (n : ℕ) (t r a : List ℕ) → IsLineRead s n r u a → length r ≤ length t → MAX_WORKLOAD < length t - length a
     → lines_read s n (length t - length r) (lines r) ≡ Err (record { line = n; cause = TooMany })
 unfolding lines_read
-reads_long s u n t r a line e f lt le h large = rw (e, f, h, past_line t r a lt le, passes (length t - length a) large) refl
+reads_long s u n t r a q le large = rw (q.cut, q.read, past_line t r a q.line q.long le, passes (length t - length a) large) refl
+
+-- a line read the slow way
+pub slow_line : (s u : Reading) (n : ℕ) (text line rest : List ℕ) → lines text ≡ take (length text - length rest) text ∷ lines rest → body (take (length text - length rest) text) ≡ line → (IsUtf8 text → IsUtf8 line × IsUtf8 rest) → length rest < length text → line_read s n line ≡ Ok u → IsLineRead s n text u rest
+slow_line s u n text line rest cut inside utf8 shorter read =
+    let long : length (take (length text - length rest) text) ≡ length text - length rest = length-take-le (length text - length rest) text (omega arith) in
+    record {
+      line = take (length text - length rest) text;
+      cut = cut;
+      read = ap (line_read s n) inside ∙ read;
+      some = omega (arith, long, shorter);
+      long = omega (arith, long, shorter);
+      utf8 = λ h. (utf8 h).1;
+    }
+
+pub slow_bad : (e : LineRefusal) (s : Reading) (n : ℕ) (text line rest : List ℕ) → lines text ≡ take (length text - length rest) text ∷ lines rest → body (take (length text - length rest) text) ≡ line → Fails e (line_read s n line) → IsLineBad e s n text
+slow_bad of_lines.Memory s n text line rest cut inside fails = tt
+slow_bad (of_lines.Cause cause) s n text line rest cut inside fails = record {
+  line = take (length text - length rest) text;
+  more = lines rest;
+  cut = cut;
+  fails = ap (line_read s n) inside ∙ fails;
+}
 
 goes : {A B : Type 0} (r : Result A TextCause) (x : A) (f : A → Result B TextCause) → r ≡ Ok x → (r >>= f) ≡ f x
 goes r x f e = rw e refl

@@ -11,3 +11,4 @@ pub mod Causes
 pub mod Puts
 pub mod Places
 pub mod Plain
+pub mod Quick

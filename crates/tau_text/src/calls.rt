@@ -187,7 +187,7 @@ fn declared_line(procs: &[Proc], rest: &[u8], args: &mut Args) -> Result<u16, Li
 
 /// How many arguments the procedure at a place takes.
 #[tactic(auto, using(crate::proofs::Literals::args_there))]
-fn args_of(procs: &[Proc], i: usize) -> u8
+pub fn args_of(procs: &[Proc], i: usize) -> u8
     requires there { i < length procs.now }
     requires limits { All IsWellFormed procs.now }
     ensures value { result ≡ args_at i procs.now }

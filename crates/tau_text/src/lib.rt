@@ -10,6 +10,7 @@ mod lines;
 mod load;
 mod parse;
 mod print;
+mod quick;
 mod reading;
 mod spelled;
 mod words;

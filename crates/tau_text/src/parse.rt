@@ -1,5 +1,5 @@
 //! What a text means. A line changes in place what was read, and on an error may have changed a part of it.
-ghost use Rattle.std.specs.Prelude.{true, false, ◌≡◌, ◌≤◌, ◌<◌, ◌+◌, ◌^◌, Ok, Result, None, Some, length, IfOk, OnOk, IfSome, IsTrue, unwrap_or, is_none, [], ◌∷◌, IsUtf8};
+ghost use Rattle.std.specs.Prelude.{ℕ, IfErr, true, false, ◌≡◌, ◌≤◌, ◌<◌, ◌+◌, ◌^◌, Ok, Result, None, Some, length, IfOk, OnOk, IfSome, IsTrue, unwrap_or, is_none, [], ◌∷◌, IsUtf8};
 ghost use Rattle.std.specs.Str.{is_utf8};
 ghost use Rattle.tau_proc.specs.Takes.{takes};
 ghost use Rattle.tau_text.specs.Lines.{words, lines};
@@ -7,6 +7,7 @@ ghost use Rattle.tau_text.specs.Given.{Gives};
 ghost use Rattle.tau_text.specs.Called.{called};
 ghost use Rattle.tau_text.specs.Text.{workload_of, outer_read, inner_read, words_read, statement_read, line_read, with_call, is_before, lines_read, nothing, closed};
 ghost use Rattle.tau_text.specs.Kept.{IsWithin, IsBegun, IsRunnable, Reads, refusal};
+ghost use Rattle.tau_text.specs.Quick.{HasNames, IsLineRead, IsLineBad};
 
 use crate::calls::call_line;
 use crate::fault::{LineRefusal, TextCause, TextFault, TextRefusal};
@@ -16,6 +17,7 @@ use crate::forms::{
 use crate::heads::{Head, StepHead};
 use crate::lines::{first_line, next_word, no_more};
 use crate::load::{Declarations, Turn, Workload};
+use crate::quick::quick_call;
 use crate::reading::{Begun, Reading};
 use crate::spelled::begins_with;
 use arrayvec::ArrayVec;
@@ -368,6 +370,75 @@ fn line_read(
     words_read(alloc, s, n, line, call)
 }
 
+/// Whether a call may stand here and there is room for one.
+#[inline(always)]
+fn takes_calls(s: &Reading) -> bool
+    ensures outside { result ≡ true → s.now.begun ≡ None }
+    ensures before { result ≡ true → s.now.turns ≡ None }
+    ensures room { result ≡ true → length s.now.calls < MAX_CALLS }
+{
+    if !is_outside(s) {
+        return false;
+    }
+    match &s.turns {
+        Some(_) => false,
+        None => s.calls.len() < MAX_CALLS,
+    }
+}
+
+/// The first line of a text that has bytes left, whose lines may be known to be UTF-8, is read; and what comes after it.
+fn slow_taken<'a>(
+    alloc: Global,
+    s: &mut Reading,
+    n: u32,
+    text: &'a [u8],
+    known: bool,
+    call: &mut Call,
+) -> Result<&'a [u8], LineRefusal>
+    requires within { IsWithin s.old }
+    requires some { 0 < length text.now }
+    requires text { known ≡ true → IsUtf8 text.now }
+    ensures read { IfOk result (λ rest. IsLineRead s.old n text.now s.new rest.now) }
+    ensures bad { IfErr result (λ e. IsLineBad e s.old n text.now) }
+    ensures within { OnOk result (IsWithin s.new) }
+{
+    let (line, rest) = first_line(text);
+    match line_read(alloc, s, n, line, known, call) {
+        Ok(()) => Ok(rest),
+        Err(e) => Err(e),
+    }
+}
+
+/// The same. A line of a call is read in one pass, if it is spelled as most are.
+#[inline(always)]
+fn line_taken<'a>(
+    alloc: Global,
+    s: &mut Reading,
+    n: u32,
+    text: &'a [u8],
+    known: bool,
+    call: &mut Call,
+) -> Result<&'a [u8], LineRefusal>
+    requires within { IsWithin s.old }
+    requires names { HasNames s.old }
+    requires some { 0 < length text.now }
+    requires text { known ≡ true → IsUtf8 text.now }
+    ensures read { IfOk result (λ rest. IsLineRead s.old n text.now s.new rest.now) }
+    ensures bad { IfErr result (λ e. IsLineBad e s.old n text.now) }
+    ensures within { OnOk result (IsWithin s.new) }
+{
+    if !takes_calls(s) {
+        return slow_taken(alloc, s, n, text, known, call);
+    }
+    let Some(rest) = quick_call(s.tables.as_slice(), s.procs.list(), text, call) else {
+        return slow_taken(alloc, s, n, text, known, call);
+    };
+    match s.calls.push(call) {
+        Ok(()) => Ok(rest),
+        Err(_) => Err(LineRefusal::Memory),
+    }
+}
+
 /// The refusal of a line, with its number.
 fn refusal(n: u32, e: LineRefusal) -> TextRefusal
     ensures { result ≡ refusal n e }
@@ -413,16 +484,15 @@ fn lines_read(alloc: Global, text: &[u8]) -> Result<Reading, TextRefusal>
     let mut rest = text;
     let mut n: u32 = 1;
     while !rest.is_empty() {
-        let (line, after) = first_line(rest);
-        match line_read(alloc, &mut s, n, line, known, &mut call) {
-            Ok(()) => {}
+        let after = match line_taken(alloc, &mut s, n, rest, known, &mut call) {
+            Ok(after) => after,
             Err(e) => return Err(refusal(n, e)),
-        }
+        };
         if text.len() - after.len() > MAX_WORKLOAD {
             return Err(refusal(n, LineRefusal::Cause(TextCause::TooMany)));
         }
-        rest = after;
         n += 1;
+        rest = after;
     }
     Ok(s)
 }

@@ -3,11 +3,13 @@ use Rattle.tau_base.specs.declared.limits.TheConstants.{MAX_WORKLOAD}
 use Rattle.tau_text.specs.Lines.{lines}
 use Rattle.tau_text.specs.Text.{lines_read, nothing}
 use Rattle.tau_text.specs.Kept.{IsWithin}
+use Rattle.tau_text.specs.Quick.{HasNames}
 use Rattle.tau_text.proofs.parse.lines_read.Given as goal
 
 abbrev pub invariant-loop-rest : goal.invariant-loop-rest
 invariant-loop-rest l = record {
   within : IsWithin l.s;
+  names : HasNames l.s;
   rest : length l.rest ≤ length l.text;
   past : length l.text - length l.rest ≤ MAX_WORKLOAD;
   utf8 : l.known ≡ true → IsUtf8 l.rest;

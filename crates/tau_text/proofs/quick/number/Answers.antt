@@ -1,0 +1,32 @@
+-- One digit more.
+use Rattle.std.proofs.Common.{ℕ, ◌<◌, ◌≤◌, ◌+◌, ◌*◌, ◌-◌, ◌^◌, length, refl, arith}
+use Rattle.tau_text.proofs.Numbers.{below_tens}
+use Rattle.tau_text.proofs.OnePass.{no_digits, digit_more, few_more}
+use Rattle.tau_text.proofs.quick.number.Goals as goal
+
+pub loop-i-init : goal.loop-i-init
+loop-i-init c = record { few = omega arith; read = no_digits c.args.text.now }
+
+pub spelled-requires-clause-few : goal.spelled-requires-clause-few
+spelled-requires-clause-few c = below_tens c.loop-i.value c.loop-i.i 18 c.loop-i.invariant.few (omega (arith, c.loop-i-test.true))
+
+pub overflow_mul-value : goal.overflow_mul-value
+overflow_mul-value c =
+    let lt : c.loop-i.value < 10 ^ 17 = below_tens c.loop-i.value c.loop-i.i 17 c.loop-i.invariant.few (omega (arith, c.loop-i-test.true)) in
+    omega (arith, lt)
+
+pub overflow_add-value : goal.overflow_add-value
+overflow_add-value c =
+    let lt : c.loop-i.value < 10 ^ 17 = below_tens c.loop-i.value c.loop-i.i 17 c.loop-i.invariant.few (omega (arith, c.loop-i-test.true)) in
+    omega (arith, lt, c.from.ensures, c.if-byte-gt57.false)
+
+pub loop-i-preserved : goal.loop-i-preserved
+loop-i-preserved c =
+    let text = c.args.text.now in let i : ℕ = c.loop-i.i in let value : ℕ = c.loop-i.value in let b : ℕ = c.from.result in
+    let lt : i < length text = omega (arith, c.loop-i-test.true, c.if-text-lt18.false) in
+    let low : 48 ≤ b = omega (arith, c.from.ensures, c.if-byte-lt48.false) in
+    let high : b ≤ 57 = omega (arith, c.from.ensures, c.if-byte-gt57.false) in
+    record {
+      few = few_more value i b low high c.loop-i.invariant.few;
+      read = digit_more text i value (value * 10 + b - 48) b lt c.from.ensures low high refl c.loop-i.invariant.read;
+    }

@@ -1,0 +1,6 @@
+-- What is read of the words after the first.
+use Rattle.tau_text.proofs.OnePass.{put_called}
+use Rattle.tau_text.proofs.quick.quick_put.Goals as goal
+
+pub returns-clause-read : goal.returns-clause-read
+returns-clause-read c = λ procs. put_called c.args.tables.now procs c.args.text.now c.three.new.args.items c.in_ok-rest.rest.now c.in_ok-rest.ensures.put
