@@ -1,7 +1,8 @@
 -- Nothing is left to gather, and room that was made suffices.
-use Rattle.std.proofs.Common.{ℕ, ◌+◌, ◌-◌, ◌%◌, ◌<◌, ◌≤◌, ◌≡◌, inl, inr, List, ◌++◌, length, refl, sym, ap, subst, ◌∙◌, arith, length-append, get_or-set_same}
+use Rattle.std.proofs.Common.{ℕ, zero, suc, ◌+◌, ◌-◌, ◌*◌, ◌%◌, ◌<◌, ◌≤◌, ◌≡◌, inl, inr, List, ◌++◌, length, refl, sym, ap, subst, ◌∙◌, arith, length-append, get_or-set_same}
 use Rattle.std.specs.Prelude.{Some, None, min, slice_get, slice_index, slice_set}
-use Rattle.std.proofs.lemmas.Bool.{cases_eq}
+use Rattle.std.proofs.lemmas.Bool.{cases_eq, cases_lt}
+use Rattle.std.proofs.lemmas.Nat.{mod-mul-add}
 use Rattle.std.proofs.lemmas.Option.{slice_get_within}
 use Rattle.tau_base.specs.declared.limits.TheConstants.{MAX_BODY}
 use Rattle.tau_outbox.specs.declared.Piece.{Piece}
@@ -147,7 +148,7 @@ module _ (p : Plain) (g : Stood p) (j : ℕ) (there : j < p.load.streams) (going
       })
 
 -- a worker of another stream is passed over
-pub passed_waits : (j w : ℕ) (p : Plain) → (w % p.load.streams ≡ j → ⊥) → WaitsBelow j w p → WaitsBelow j (w + 1) p
+passed_waits : (j w : ℕ) (p : Plain) → (w % p.load.streams ≡ j → ⊥) → WaitsBelow j w p → WaitsBelow j (w + 1) p
 passed_waits j w p other below = record {
   own = below.own;
   posted = λ u t lt whose e. elim (cases_eq u w) [
@@ -155,6 +156,42 @@ passed_waits j w p other below = record {
     | inr ne ↦ below.posted u t (omega arith) whose e
   ];
 }
+
+-- each n-th worker from j on is of stream j
+pub turns_of : (n j turns w : ℕ) → j < n → w ≡ turns * n + j → w % n ≡ j
+turns_of n j turns w there is = ap (λ m. m % n) is ∙ mod-mul-add turns n j there
+
+-- after a worker of a stream of n come those of the others, and then its next one
+others_between : (n j turns k : ℕ) → j < n → 0 < k → k < n → (turns * n + j + k) % n ≡ j → ⊥
+others_between n j turns k there some few same = elim (cases_lt (j + k) n) [
+  | inl low ↦
+      let at : (turns * n + (j + k)) % n ≡ j + k = mod-mul-add turns n (j + k) low in
+      let apart : turns * n + j + k ≡ turns * n + (j + k) = omega arith in
+      let e : j + k ≡ j = sym at ∙ ap (λ m. m % n) (sym apart) ∙ same in
+      omega arith
+  | inr high ↦
+      let at : ((turns + 1) * n + (j + k - n)) % n ≡ j + k - n = mod-mul-add (turns + 1) n (j + k - n) (omega arith) in
+      let apart : turns * n + j + k ≡ (turns + 1) * n + (j + k - n) = omega arith in
+      let e : j + k - n ≡ j = sym at ∙ ap (λ m. m % n) (sym apart) ∙ same in
+      omega arith
+]
+
+-- so all of them are passed over
+pub rest_waits : (j w turns k : ℕ) (p : Plain) → j < p.load.streams → w ≡ turns * p.load.streams + j → k < p.load.streams → WaitsBelow j (w + 1) p → WaitsBelow j (w + 1 + k) p
+rest_waits j w turns zero p there is few below = subst (λ (n : ℕ). WaitsBelow j n p) (omega arith) below
+rest_waits j w turns (suc k) p there is few below =
+    let other : (w + 1 + k) % p.load.streams ≡ j → ⊥ =
+    λ e. others_between p.load.streams j turns (k + 1) there (omega arith) (omega arith) (ap (λ m. m % p.load.streams) (let at : turns * p.load.streams + j + (k + 1) ≡ w + 1 + k = omega arith in at) ∙ e) in
+    let on : WaitsBelow j (w + 1 + k + 1) p = passed_waits j (w + 1 + k) p other (rest_waits j w turns k p there is (omega arith) below) in
+    subst (λ (n : ℕ). WaitsBelow j n p) (omega arith) on
+
+-- no worker below the first one is the stream's
+pub first_waits : (j k : ℕ) (p : Plain) → j < p.load.streams → k ≤ j → WaitsBelow j 0 p → WaitsBelow j k p
+first_waits j zero p there low below = below
+first_waits j (suc k) p there low below =
+    let at : k % p.load.streams ≡ k = turns_of p.load.streams k 0 k (omega arith) (omega arith) in
+    let on : WaitsBelow j (k + 1) p = passed_waits j k p (λ e. let same : k ≡ j = sym at ∙ e in omega arith) (first_waits j k p there (omega arith) below) in
+    subst (λ (n : ℕ). WaitsBelow j n p) (omega arith) on
 
 pub all_wait : (j n : ℕ) (p : Plain) → length p.seats ≤ n → WaitsBelow j n p → AllGathered j p
 all_wait j n p all below = record {

@@ -1,5 +1,5 @@
 -- What a manager does to place an anchor.
-use Rattle.std.specs.Prelude.{ℕ, ◌+◌, ◌-◌, ◌<◌, ◌^◌, ◌≡◌, None, Some, false, List, [], ◌∷◌, ◌++◌, length, slice_get, slice_index, slice_set}
+use Rattle.std.specs.Prelude.{ℕ, ◌+◌, ◌<◌, ◌≡◌, None, Some, false, List, [], ◌∷◌, ◌++◌, length, slice_get, slice_index, slice_set}
 use Rattle.tau_base.specs.declared.limits.TheConstants.{MAX_ANCHORS}
 use Rattle.tau_base.specs.Modes.{format_of}
 use Rattle.tau_record.specs.Record.{Spells}

@@ -10,7 +10,7 @@ ghost use Rattle.tau_core.specs.Answered.{gathered_by};
 
 use crate::event::Gathering;
 use crate::state::State;
-use tau_base::{MAX_BODY, NoMemory, stream_of};
+use tau_base::{MAX_BODY, NoMemory};
 
 /// Gathers the posted pieces that continue the stream.
 pub(crate) fn gather(state: &mut State, stream: usize) -> Gathering
@@ -102,10 +102,11 @@ fn gather_round(state: &mut State, stream: usize)
 {
     gather_own(state, stream);
     let streams = state.load.streams;
-    for worker in 0..state.load.workers {
-        if stream_of(worker, streams) == stream {
-            gather_from(state, stream, worker);
-        }
+    let workers = state.load.workers;
+    let mut worker = stream;
+    while worker < workers {
+        gather_from(state, stream, worker);
+        worker += streams;
     }
 }
 

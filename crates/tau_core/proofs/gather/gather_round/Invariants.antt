@@ -1,4 +1,4 @@
-use Rattle.std.proofs.Common.{◌≡◌}
+use Rattle.std.proofs.Common.{ℕ, ◌+◌, ◌-◌, ◌*◌, ◌≡◌}
 use Rattle.std.specs.Prelude.{slice_index}
 use Rattle.tau_core.specs.State.{plain}
 use Rattle.tau_core.specs.Gather.{GathersOn}
@@ -11,5 +11,10 @@ invariant-loop-worker l = record {
   gathers : GathersOn l.stream (plain l.fn.state) (plain l.state);
   next : IsNext l.stream (plain l.fn.state) (plain l.state);
   streams : l.streams ≡ l.state.load.streams;
+  workers : l.workers ≡ l.state.load.workers;
+  turns : (turns : ℕ) × (l.worker ≡ turns * l.streams + l.stream);
   waits : slice_index l.state.gathered l.stream ≡ slice_index l.fn.state.gathered l.stream → WaitsBelow l.stream l.worker (plain l.state);
 }
+
+abbrev pub decreases-loop-worker : goal.decreases-loop-worker
+decreases-loop-worker l = l.workers - l.worker
