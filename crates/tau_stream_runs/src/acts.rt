@@ -5,7 +5,7 @@ use std::process::Abort;
 use std::test::*;
 use tau_base::MAX_BODY;
 use tau_block::contents_of;
-use tau_disk::{MemDisk, Tear};
+use tau_disk::{Disk, MemDisk, Tear};
 use tau_stream::{Flush, Writer};
 
 /// What is done with a stream, and what must come of it.
@@ -33,7 +33,8 @@ pub(crate) enum Holds {
 /// What is done with a stream, how many calls its disk has then had, and what it holds.
 pub(crate) type Row = (&'static [Act], u64, &'static [Holds]);
 
-fn adds(writer: &mut Writer<MemDisk>, body: &[u8]) -> Result<(), Fail> {
+/// Adds a body.
+pub(crate) fn adds<D: Disk>(writer: &mut Writer<D>, body: &[u8]) -> Result<(), Fail> {
     if writer.gathered() > 1_000_000_000 || body.len() > 1_000_000_000 {
         return Err(Fail::new("a long body"));
     }

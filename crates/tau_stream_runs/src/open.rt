@@ -1,4 +1,5 @@
 //! How streams are opened, on disks that fail, hold something or are new, and how they are closed again.
+use crate::acts::is_image;
 use crate::digits::bytes_of;
 use std::alloc::Global;
 use std::process::Abort;
@@ -170,18 +171,10 @@ fn holding(alloc: Global, images: &[&str]) -> Result<Vec<MemDisk>, Fail> {
     Ok(disks)
 }
 
-// A stop leaves these bytes of the disk.
-fn holds(rt: &impl Abort, alloc: Global, disk: &MemDisk, digits: &str) -> Result<(), Fail> {
-    let image = disk.image(Tear::Old)?;
-    let wanted = bytes_of(alloc, digits)?;
-    assert_eq!(rt; image.as_slice(), wanted.as_slice());
-    Ok(())
-}
-
 fn hold(rt: &impl Abort, alloc: Global, disks: &[MemDisk], images: &[&str]) -> Result<(), Fail> {
     assert_eq!(rt; disks.len(), images.len());
     for (disk, digits) in disks.iter().zip(images.iter()) {
-        holds(rt, alloc, disk, digits)?;
+        is_image(rt, alloc, disk, Tear::Old, digits)?;
     }
     Ok(())
 }

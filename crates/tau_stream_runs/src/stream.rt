@@ -5,7 +5,7 @@ ghost use Rattle.tau_disk.specs.Disk.{HasCause};
 ghost use Rattle.tau_disk.specs.Left.{may_leave_each};
 ghost use Rattle.tau_disk.specs.Memory.{seen_by};
 
-use crate::acts::{Act, Holds, Row, adds_digits, are_held, flush, goes, is_image};
+use crate::acts::{Act, Holds, Row, adds, adds_digits, are_held, flush, goes, is_image};
 use crate::digits::{LOG, PUT, bytes_of};
 use std::alloc::Global;
 use std::cell::Cell;
@@ -301,27 +301,44 @@ impl<'a> Gate for Watch<'a> {
     }
 }
 
+/// Stream 2 of three on a recorder, to which 40 bytes were added.
+fn recorded<'a>(alloc: Global, calls: &'a Cell<u64>) -> Result<Writer<Recorder<'a>>, Fail> {
+    let disk = Recorder::new(alloc, calls);
+    match Writer::create(alloc, disk, 3, 2, b"table a\n") {
+        Ok(mut writer) => {
+            adds(&mut writer, &[7; 40])?;
+            Ok(writer)
+        }
+        Err(_) => Err(Fail::new("refused")),
+    }
+}
+
+/// Prepares the content up to 53, which makes no call, and flushes it by a gate.
+fn flushed<'a>(
+    mut writer: Writer<Recorder<'a>>,
+    gate: &Watch<'a>,
+) -> Result<(Recorder<'a>, u64), Fail> {
+    if writer.failed() || writer.durable() != 13 || writer.gathered() < 53 {
+        return Err(Fail::new("a flush to nowhere"));
+    }
+    writer.prepare(53)?;
+    let before = gate.calls.get();
+    writer.flush_gated(53, gate)?;
+    Ok((writer.into_disk(), before))
+}
+
 #[test]
 fn order_of_calls(rt: HostRuntime) -> Result<(), Fail> {
-    let alloc = rt.alloc();
     let calls = Cell::new(0u64);
-    let disk = Recorder::new(alloc, &calls);
-    let mut writer = match Writer::create(alloc, disk, 3, 2, b"table a\n") {
-        Ok(writer) => writer,
-        Err(_) => panic!(rt; "refused"),
-    };
-    writer.add(&[7; 40])?;
-    writer.prepare(53)?;
+    let writer = recorded(rt.alloc(), &calls)?;
     let gate = Watch {
         calls: &calls,
         asked: Cell::new(0),
         place: Cell::new(None),
     };
-    assert_eq!(rt; calls.get(), 6);
-    writer.flush_gated(53, &gate)?;
-    assert_eq!(rt; gate.asked.get(), 1);
+    let (disk, before) = flushed(writer, &gate)?;
+    assert!(rt; before == 6 && gate.asked.get() == 1);
     assert!(rt; gate.place.get() == Some((Place::Flush { stream: 2 }, 8)));
-    let disk = writer.into_disk();
     assert!(rt; disk.noted.as_slice() == NOTED.as_slice());
     Ok(())
 }
@@ -402,13 +419,15 @@ static HOSTILE: [(usize, &str, u8, u64); 13] = [
 
 /// The log, in which these bytes are set from here on.
 fn with_bytes(alloc: Global, from: usize, digits: &str) -> Result<Vec<u8>, Fail> {
-    let log = bytes_of(alloc, LOG)?;
+    let mut image = bytes_of(alloc, LOG)?;
     let bytes = bytes_of(alloc, digits)?;
-    let past = bytes.len().saturating_add(from);
-    let mut image = Vec::new(alloc);
-    image.extend_from_slice(log.get(..from).unwrap_or(&[]))?;
-    image.extend_from_slice(bytes.as_slice())?;
-    image.extend_from_slice(log.get(past..).unwrap_or(&[]))?;
+    for (i, byte) in bytes.iter().enumerate() {
+        let at = from.wrapping_add(i);
+        if at >= image.len() {
+            return Err(Fail::new("no such byte"));
+        }
+        image[at] = *byte;
+    }
     Ok(image)
 }
 
@@ -425,11 +444,17 @@ fn are_found(rt: &impl Abort, alloc: Global, rows: &[(usize, &str, u8, u64)]) ->
     Ok(())
 }
 
+/// The log up to the gate after its catalogue.
+const FRONT: &str = "5441555255532d4c4f472d31 0001 0000 01 0000000d 04 0000000d 7461626c6520610a";
+
+fn front_is_found(rt: &impl Abort, alloc: Global) -> Result<(), Fail> {
+    let front = bytes_of(alloc, FRONT)?;
+    assert!(rt; front.len() == 34 && found(alloc, front.as_slice()) == (4, 0));
+    Ok(())
+}
+
 #[test]
 fn hostile_images(rt: HostRuntime) -> Result<(), Fail> {
-    let alloc = rt.alloc();
-    let log = bytes_of(alloc, LOG)?;
-    let front = log.get(..34).ok_or("a short log")?;
-    assert_eq!(rt; found(alloc, front), (4, 0));
-    are_found(&rt, alloc, &HOSTILE)
+    front_is_found(&rt, rt.alloc())?;
+    are_found(&rt, rt.alloc(), &HOSTILE)
 }
