@@ -8,6 +8,8 @@ mod print;
 #[cfg(test)]
 mod rows;
 #[cfg(test)]
+mod spellings;
+#[cfg(test)]
 mod text;
 #[cfg(test)]
 mod words;

@@ -69,7 +69,7 @@ fn transfers_are_read_and_printed(rt: HostRuntime) -> Result<(), Fail> {
 }
 
 // Checks what the meaning of a text is printed as.
-fn becomes(rt: &impl Abort, alloc: Global, text: &str, wanted: &str) -> Result<(), Fail> {
+pub fn becomes(rt: &impl Abort, alloc: Global, text: &str, wanted: &str) -> Result<(), Fail> {
     let found = printed(alloc, text)?;
     assert_eq!(rt; found.as_slice(), wanted.as_bytes());
     Ok(())

@@ -5,7 +5,7 @@ use std::test::Fail;
 use tau_text::{TextRefusal, parse_declarations, parse_workload};
 
 // the line and the number of the cause; 0 and 0 of a good text
-fn outcome(alloc: Global, text: &[u8]) -> (u32, u8) {
+pub fn outcome(alloc: Global, text: &[u8]) -> (u32, u8) {
     match parse_workload(alloc, text) {
         Ok(_) => (0, 0),
         Err(TextRefusal::NoMemory) => (0, 10),
@@ -83,6 +83,12 @@ fn bytes_that_are_no_text(rt: HostRuntime) {
     is_no_text(&rt, rt.alloc(), b"table a\nput a 1 \"\xed\xa0\x80\"", 2);
     is_no_text(&rt, rt.alloc(), b"foo \x80\nfoo", 1);
     is_no_text(&rt, rt.alloc(), b"proc p 0\n\n\xf8\nfoo", 3);
+    is_no_text(
+        &rt,
+        rt.alloc(),
+        b"table a\nadd a 1 2\nadd a 3 4\n# this is \xff no text",
+        4,
+    );
 }
 
 // the front, a line so many times, and the back
