@@ -1,5 +1,5 @@
 -- A follower, as its callers see it.
-use Rattle.std.proofs.Common.{ℕ, ◌≡◌, List, Option, Result, Ok, Err, refl, subst}
+use Rattle.std.proofs.Common.{ℕ, ◌≡◌, ◌⊎◌, inl, inr, List, Option, None, Some, Result, Ok, Err, refl, subst}
 use Rattle.tau_base.specs.Database.{Db}
 use Rattle.tau_base.specs.declared.value.Key.{Key}
 use Rattle.tau_base.specs.declared.value.Value.{Value}
@@ -21,3 +21,12 @@ applied_tables s c rows e h = subst (λ (x : Db). IsTablesOf x rows) (applied_is
 
 pub refused_is : (a b : LogFault) → ◌≡◌ {A = Result (Unit {0}) FollowRefusal} (Err (refusals.Bad a)) (Err (refusals.Bad b)) → a ≡ b
 refused_is a b e = cc
+
+-- the refusal that is returned
+pub told_is : (a b : FollowRefusal) → ◌≡◌ {A = Result (Unit {0}) FollowRefusal} (Err a) (Err b) → a ≡ b
+told_is a b e = cc
+
+-- it has failed, or not
+pub failed_or : (failed : Option LogFault) → (failed ≡ None) ⊎ ((fault : LogFault) × (failed ≡ Some fault))
+failed_or None = inl refl
+failed_or (Some fault) = inr (fault, refl)

@@ -64,28 +64,31 @@ pub fn is_short_by(readers: &[Reader], stream: u8, more: usize) -> bool
     }
 }
 
-/// Whether by so many bytes more no more than the kind and the length of the next record of a stream are there.
-pub fn is_head_by(readers: &[Reader], stream: u8, more: usize) -> bool {
-    match readers.get(stream as usize) {
-        None => false,
-        Some(reader) => reader.is_head_by(more),
-    }
-}
-
-/// Feeds bytes to a stream if its next record is not whole by them, as its kind and length say, and returns whether it is so.
-pub fn wait_head(readers: &mut Vec<Reader>, stream: u8, bytes: &[u8]) -> Result<bool, NoMemory>
-    ensures short { (format : Format) (n : ℕ) (fed : List (List ℕ)) (streams : List (List OnePlaced)) → stream < n → AreRead format n fed streams readers.old.items → IfOk result (λ short. short ≡ true → AreRead format n (with_piece fed (record { stream = stream; bytes = bytes.now })) streams readers.new.items) }
-    ensures same { (format : Format) (n : ℕ) (fed : List (List ℕ)) (streams : List (List OnePlaced)) → stream < n → AreRead format n fed streams readers.old.items → IfOk result (λ short. short ≡ false → AreRead format n fed streams readers.new.items) }
-    ensures err { (format : Format) (n : ℕ) (fed : List (List ℕ)) (streams : List (List OnePlaced)) → stream < n → AreRead format n fed streams readers.old.items → OnErr result (AreRead format n fed streams readers.new.items) }
+/// Feeds bytes to a stream if no more than the kind and the length of its next record are there by them, and it is not whole
+/// by them, as these say. Returns whether it did.
+pub fn wait_head(readers: &mut Vec<Reader>, stream: u8, bytes: &[u8]) -> bool
+    ensures put { (format : Format) (n : ℕ) (fed : List (List ℕ)) (streams : List (List OnePlaced)) → stream < n → AreRead format n fed streams readers.old.items → result ≡ true → AreRead format n (with_piece fed (record { stream = stream; bytes = bytes.now })) streams readers.new.items }
+    ensures same { (format : Format) (n : ℕ) (fed : List (List ℕ)) (streams : List (List OnePlaced)) → stream < n → AreRead format n fed streams readers.old.items → result ≡ false → AreRead format n fed streams readers.new.items }
 {
     let j = stream as usize;
     if j >= readers.len() {
-        return Err(NoMemory);
+        return false;
     }
-    match readers[j].wait_head(bytes) {
-        Ok(short) => Ok(short),
-        Err(e) => Err(e),
+    readers[j].wait_head(bytes)
+}
+
+/// Feeds a single byte to a stream, if its next record is known not to be whole by it and there is room, and returns whether
+/// it did.
+#[inline(always)]
+pub fn wait_byte(readers: &mut Vec<Reader>, stream: u8, bytes: &[u8]) -> bool
+    ensures put { (format : Format) (n : ℕ) (fed : List (List ℕ)) (streams : List (List OnePlaced)) → stream < n → AreRead format n fed streams readers.old.items → result ≡ true → AreRead format n (with_piece fed (record { stream = stream; bytes = bytes.now })) streams readers.new.items }
+    ensures same { (format : Format) (n : ℕ) (fed : List (List ℕ)) (streams : List (List OnePlaced)) → stream < n → AreRead format n fed streams readers.old.items → result ≡ false → AreRead format n fed streams readers.new.items }
+{
+    let j = stream as usize;
+    if j >= readers.len() {
+        return false;
     }
+    readers[j].wait_byte(bytes)
 }
 
 /// Feeds bytes to a stream by which its next record is known not to be whole.

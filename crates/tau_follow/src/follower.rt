@@ -1,5 +1,5 @@
 //! The follower.
-ghost use Rattle.std.specs.Prelude.{◌≡◌, ◌≤◌, ◌<◌, [], ℕ, List, Some, None, Ok, Err, length, replicate, IfOk, IfSome, IsNone, OnOk, OnErr};
+ghost use Rattle.std.specs.Prelude.{◌≡◌, ◌≤◌, ◌<◌, [], true, false, ℕ, List, Some, None, Ok, Err, length, replicate, IfOk, IfSome, IsNone, OnOk, OnErr};
 ghost use Rattle.tau_base.specs.Modes.{most_streams};
 ghost use Rattle.tau_base.specs.declared.format.Format.{Format};
 ghost use Rattle.tau_model.specs.Tables.{IsTablesOf};
@@ -31,6 +31,17 @@ pub struct Follower {
     count: usize,
     failed: Option<LogFault>,
     log: Option<Log>,
+}
+
+/// Why bytes were not taken.
+fn refusal_of(failed: Option<LogFault>) -> FollowRefusal
+    ensures bad { (fault : OneFault) → result ≡ refusals.Bad fault → failed ≡ Some fault }
+    ensures none { result ≡ refusals.NoMemory → failed ≡ None }
+{
+    match failed {
+        Some(fault) => FollowRefusal::Bad(fault),
+        None => FollowRefusal::NoMemory,
+    }
 }
 
 impl Follower {
@@ -74,6 +85,32 @@ impl Follower {
         if let Some(fault) = self.failed {
             return Err(FollowRefusal::Bad(fault));
         }
+        if self.state.wait_byte(stream, bytes) {
+            return Ok(());
+        }
+        if self.state.wait_head(stream, bytes) {
+            return Ok(());
+        }
+        if self.feed_on(stream, bytes) {
+            return Ok(());
+        }
+        Err(refusal_of(self.failed))
+    }
+
+    /// Feeds bytes by which the next record of a stream may be whole, and returns whether they were taken. If they were not,
+    /// the follower has failed, or memory was refused. It has not failed before.
+    #[tactic(auto, unfolding(crate::specs::Follower::IsOpen))]
+    #[inline(never)]
+    fn feed_on(&mut self, stream: u8, bytes: &[u8]) -> bool
+        requires stream { stream < width_of self.old }
+        ensures ok { (f : Format) (n : ℕ) (fed : List (List ℕ)) (s : Followed) → Follows f n fed s self.old → result ≡ true → (t : Followed) × HasFed f (with_piece fed (record { stream = stream; bytes = bytes.now })) s t × Follows f n (with_piece fed (record { stream = stream; bytes = bytes.now })) t self.new }
+        ensures bad { (f : Format) (n : ℕ) (fed : List (List ℕ)) (s : Followed) (fault : OneFault) → Follows f n fed s self.old → result ≡ false → HasFailed fault self.new → read_now f (with_piece fed (record { stream = stream; bytes = bytes.now })) s.order ≡ Err fault }
+        ensures no_memory { (f : Format) (n : ℕ) (fed : List (List ℕ)) (s : Followed) → Follows f n fed s self.old → result ≡ false → self.new.failed ≡ None → Follows f n fed s self.new }
+        ensures log { self.new.log ≡ self.old.log }
+        ensures width { width_of self.new ≡ width_of self.old }
+        ensures rows { result ≡ false → rows_of self.new ≡ rows_of self.old }
+        ensures count { result ≡ false → count_of self.new ≡ count_of self.old }
+    {
         match self.state.feed(
             self.alloc,
             self.width.format(),
@@ -83,12 +120,12 @@ impl Follower {
         ) {
             Ok(()) => {
                 self.count = self.state.applier.order.len();
-                Ok(())
+                true
             }
-            Err(LogRefusal::NoMemory) => Err(FollowRefusal::NoMemory),
+            Err(LogRefusal::NoMemory) => false,
             Err(LogRefusal::Bad(fault)) => {
                 self.failed = Some(fault);
-                Err(FollowRefusal::Bad(fault))
+                false
             }
         }
     }

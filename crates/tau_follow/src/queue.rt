@@ -64,6 +64,7 @@ impl Queue {
     }
 
     /// The first of those that wait.
+    #[inline(never)]
     fn pop(&mut self) -> Option<Spot>
         ensures some { IfSome result (λ spot. (w : Wait) → Contains self.old w → Contains self.new w ⊎ (spot_of w ≡ spot)) }
         ensures fewer { IfSome result (λ _. length self.new < length self.old) }
@@ -76,6 +77,7 @@ impl Queue {
     }
 
     /// One of those that wait for no more than this position.
+    #[inline(always)]
     pub fn pop_to(&mut self, reached: u64) -> Option<Spot>
         ensures some { IfSome result (λ spot. (w : Wait) → Contains self.old w → Contains self.new w ⊎ (spot_of w ≡ spot)) }
         ensures fewer { IfSome result (λ _. length self.new < length self.old) }

@@ -93,7 +93,7 @@ pub fn reaches(
     ensures reached { ArePassed stages.now firsts.old.items → IfOk result (λ list. list.items ≡ reaches streams.now stages.now) }
     ensures passed { ArePassed stages.now firsts.old.items → ArePassed stages.now firsts.new.items }
 {
-    let mut list = Vec::new(alloc);
+    let mut list = Vec::with_capacity(alloc, streams.len())?;
     for j in 0..streams.len() {
         let Some(reach) = reach_at(streams, stages, firsts.as_slice(), j) else {
             return Err(NoMemory);

@@ -180,13 +180,36 @@ fn past_of(at: u64, long: usize) -> Option<u64>
     Some(past)
 }
 
+/// Puts a single byte after others if there is room for it, and returns whether it did.
+#[inline(always)]
+fn push_one(rest: &mut Vec<u8>, bytes: &[u8]) -> bool
+    ensures yes { result ≡ true → rest.new.items ≡ rest.old.items ++ bytes.now }
+    ensures no { result ≡ false → rest.new.items ≡ rest.old.items }
+{
+    let [byte] = bytes else {
+        return false;
+    };
+    if rest.len() >= rest.capacity() {
+        return false;
+    }
+    match rest.push(*byte) {
+        Ok(()) => true,
+        Err(_) => false,
+    }
+}
+
 /// Puts bytes after others.
 fn extend(rest: &mut Vec<u8>, bytes: &[u8]) -> Result<(), NoMemory>
     ensures ok { OnOk result (rest.new.items ≡ rest.old.items ++ bytes.now) }
     ensures err { OnErr result (rest.new.items ≡ rest.old.items) }
 {
-    rest.extend_from_slice(bytes)?;
-    Ok(())
+    if push_one(rest, bytes) {
+        return Ok(());
+    }
+    match rest.extend_from_slice(bytes) {
+        Ok(()) => Ok(()),
+        Err(_) => Err(NoMemory),
+    }
 }
 
 /// Drops the records from this index on.
@@ -458,8 +481,26 @@ impl Reader {
     }
 
     /// Whether by so many bytes more no more than the kind and the length of its next record are there.
-    pub fn is_head_by(&self, more: usize) -> bool {
+    fn is_head_by(&self, more: usize) -> bool {
         more <= HEAD && self.rest.len() <= HEAD - more
+    }
+
+    /// Puts a single byte after those that are there, if the record is known not to be whole by it and there is room, and
+    /// returns whether it did.
+    #[inline(always)]
+    pub fn wait_byte(&mut self, bytes: &[u8]) -> bool
+        ensures put { (f : Format) (n : ℕ) (content : List ℕ) (ps : List Placed) → IsRead f n content ps self.old → result ≡ true → IsRead f n (content ++ bytes.now) ps self.new × (front_of f n (content ++ bytes.now) ≡ Ok ps) }
+        ensures same { (f : Format) (n : ℕ) (content : List ℕ) (ps : List Placed) → IsRead f n content ps self.old → result ≡ false → IsRead f n content ps self.new }
+    {
+        let more = bytes.len();
+        if more >= self.lacks {
+            return false;
+        }
+        if push_one(&mut self.rest, bytes) {
+            self.lacks -= more;
+            return true;
+        }
+        false
     }
 
     /// Puts these bytes after those that are there, if the record is known not to be whole by them.
@@ -476,25 +517,27 @@ impl Reader {
         }
     }
 
-    /// Puts these bytes after those that are there if the record is not whole by them, as its kind and length say, and returns
-    /// whether it is so.
-    pub fn wait_head(&mut self, bytes: &[u8]) -> Result<bool, NoMemory>
-        ensures short { (f : Format) (n : ℕ) (content : List ℕ) (ps : List Placed) → IsRead f n content ps self.old → IfOk result (λ short. short ≡ true → IsRead f n (content ++ bytes.now) ps self.new × (front_of f n (content ++ bytes.now) ≡ Ok ps)) }
-        ensures same { (f : Format) (n : ℕ) (content : List ℕ) (ps : List Placed) → IsRead f n content ps self.old → IfOk result (λ short. short ≡ false → IsRead f n content ps self.new) }
-        ensures err { (f : Format) (n : ℕ) (content : List ℕ) (ps : List Placed) → IsRead f n content ps self.old → OnErr result (IsRead f n content ps self.new) }
+    /// Puts these bytes after those that are there if no more than the kind and the length of the next record are there by
+    /// them, and it is not whole by them, as these say. Returns whether it did.
+    pub fn wait_head(&mut self, bytes: &[u8]) -> bool
+        ensures put { (f : Format) (n : ℕ) (content : List ℕ) (ps : List Placed) → IsRead f n content ps self.old → result ≡ true → IsRead f n (content ++ bytes.now) ps self.new × (front_of f n (content ++ bytes.now) ≡ Ok ps) }
+        ensures same { (f : Format) (n : ℕ) (content : List ℕ) (ps : List Placed) → IsRead f n content ps self.old → result ≡ false → IsRead f n content ps self.new }
     {
+        if !self.is_head_by(bytes.len()) {
+            return false;
+        }
         let long = self.rest.len();
         match extend(&mut self.rest, bytes) {
             Ok(()) => {}
-            Err(e) => return Err(e),
+            Err(_) => return false,
         }
         let lacks = lacking(self.at == 0, self.rest.as_slice());
         if lacks > 0 {
             self.lacks = lacks;
-            return Ok(true);
+            return true;
         }
         self.rest.truncate(long);
-        Ok(false)
+        false
     }
 
     /// How the reader is, with these records read.

@@ -108,7 +108,9 @@ fn run(
     }
 }
 
-/// Executes a call. Each call of a log is one that its procedures take.
+/// Executes a call. Each call of a log is one that its procedures take. The machine takes much of the stack, which a feed that
+/// executes none need not touch: so it is no part of the caller.
+#[inline(never)]
 fn execute(
     store: &mut SerialStore,
     procs: &Procs,

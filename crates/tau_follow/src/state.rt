@@ -23,13 +23,13 @@ ghost use Rattle.tau_follow.specs.State.{IsAt, Stands, HasRead, HasRedone, IsSam
 use crate::applier::Applier;
 use crate::check::{checked, declared};
 use crate::feed::{
-    are_calls_at, is_head_by, is_more, is_short_by, mark_stream, read_calls, read_count,
-    read_stream, undo_stream, wait_head, wait_stream,
+    are_calls_at, is_more, is_short_by, mark_stream, read_calls, read_count, read_stream,
+    undo_stream, wait_byte, wait_head, wait_stream,
 };
 use crate::judge::judged_from;
 use crate::reader::{Mark, Reader};
 use crate::redo::redo_from;
-use crate::renew::renew_rows;
+use crate::renew::{Writes, renew_rows};
 use crate::spot::Spot;
 use crate::stage::{Stages, copied, extend_all};
 use crate::waits::Waits;
@@ -56,6 +56,8 @@ pub struct State {
     pub done: usize,
     /// The rows of what all applied records did.
     pub tables: Tables,
+    /// Room for what the records of a feed write.
+    noted: Writes,
 }
 
 /// So many zeros.
@@ -171,6 +173,7 @@ impl State {
             store,
             done: 0,
             tables,
+            noted: Vec::new(alloc),
         })
     }
 
@@ -231,14 +234,14 @@ impl State {
             Ok(()) => {}
             Err(e) => return Err(e),
         }
-        let mut noted = Vec::new(alloc);
+        self.noted.clear();
         match redo_from(
             &mut self.store,
             &self.declarations.procs,
             self.streams.as_slice(),
             self.applier.order.as_slice(),
             self.done,
-            &mut noted,
+            &mut self.noted,
         ) {
             Ok(()) => {}
             Err(e) => return Err(e),
@@ -246,7 +249,7 @@ impl State {
         match renew_rows(
             alloc,
             &self.store,
-            noted.as_slice(),
+            self.noted.as_slice(),
             &mut self.tables,
             stood,
         ) {
@@ -345,6 +348,18 @@ impl State {
         self.done = 0;
     }
 
+    /// Feeds a single byte to a stream, if its next record is known not to be whole by it and there is room, and returns
+    /// whether it did.
+    #[inline(always)]
+    pub fn wait_byte(&mut self, stream: u8, bytes: &[u8]) -> bool
+        ensures put { (format : Format) (n : ℕ) (fed : List (List ℕ)) (s : Followed) → stream < n → IsAt format n fed s self.old → result ≡ true → (t : Followed) × HasFed format (with_piece fed (record { stream = stream; bytes = bytes.now })) s t × IsAt format n (with_piece fed (record { stream = stream; bytes = bytes.now })) t self.new }
+        ensures same { (format : Format) (n : ℕ) (fed : List (List ℕ)) (s : Followed) → stream < n → IsAt format n fed s self.old → result ≡ false → IsAt format n fed s self.new }
+        ensures tables { self.new.tables ≡ self.old.tables }
+        ensures order { self.new.applier.order.items ≡ self.old.applier.order.items }
+    {
+        wait_byte(&mut self.readers, stream, bytes)
+    }
+
     /// Feeds bytes to a stream by which its next record is not whole.
     fn wait(&mut self, stream: u8, bytes: &[u8]) -> Result<(), NoMemory>
         ensures ok { (format : Format) (n : ℕ) (fed : List (List ℕ)) (s : Followed) → stream < n → IsAt format n fed s self.old → IsShortBy self.old.readers.items stream (length bytes.now) → OnOk result ((t : Followed) × HasFed format (with_piece fed (record { stream = stream; bytes = bytes.now })) s t × IsAt format n (with_piece fed (record { stream = stream; bytes = bytes.now })) t self.new) }
@@ -357,18 +372,16 @@ impl State {
         }
     }
 
-    /// Feeds bytes to a stream if its next record is not whole by them, as its kind and length say, and returns whether it is
-    /// so.
-    fn wait_head(&mut self, stream: u8, bytes: &[u8]) -> Result<bool, NoMemory>
-        ensures short { (format : Format) (n : ℕ) (fed : List (List ℕ)) (s : Followed) → stream < n → IsAt format n fed s self.old → IfOk result (λ short. short ≡ true → (t : Followed) × HasFed format (with_piece fed (record { stream = stream; bytes = bytes.now })) s t × IsAt format n (with_piece fed (record { stream = stream; bytes = bytes.now })) t self.new) }
-        ensures same { (format : Format) (n : ℕ) (fed : List (List ℕ)) (s : Followed) → stream < n → IsAt format n fed s self.old → IfOk result (λ short. short ≡ false → IsAt format n fed s self.new) }
-        ensures err { (format : Format) (n : ℕ) (fed : List (List ℕ)) (s : Followed) → stream < n → IsAt format n fed s self.old → OnErr result (IsAt format n fed s self.new) }
+    /// Feeds bytes to a stream if no more than the kind and the length of its next record are there by them, and it is not
+    /// whole by them, as these say. Returns whether it did.
+    #[inline(never)]
+    pub fn wait_head(&mut self, stream: u8, bytes: &[u8]) -> bool
+        ensures put { (format : Format) (n : ℕ) (fed : List (List ℕ)) (s : Followed) → stream < n → IsAt format n fed s self.old → result ≡ true → (t : Followed) × HasFed format (with_piece fed (record { stream = stream; bytes = bytes.now })) s t × IsAt format n (with_piece fed (record { stream = stream; bytes = bytes.now })) t self.new }
+        ensures same { (format : Format) (n : ℕ) (fed : List (List ℕ)) (s : Followed) → stream < n → IsAt format n fed s self.old → result ≡ false → IsAt format n fed s self.new }
         ensures tables { self.new.tables ≡ self.old.tables }
+        ensures order { self.new.applier.order.items ≡ self.old.applier.order.items }
     {
-        match wait_head(&mut self.readers, stream, bytes) {
-            Ok(short) => Ok(short),
-            Err(e) => Err(e),
-        }
+        wait_head(&mut self.readers, stream, bytes)
     }
 
     /// Feeds bytes to a stream by which its next record may be whole.
@@ -424,33 +437,6 @@ impl State {
         }
     }
 
-    /// Feeds bytes to a stream by which its next record is not known to be cut short.
-    fn feed_more(
-        &mut self,
-        alloc: Global,
-        format: Format,
-        n: u16,
-        stream: u8,
-        bytes: &[u8],
-    ) -> Result<(), LogRefusal>
-        requires low { 1 ≤ n }
-        requires high { n ≤ most_streams format }
-        requires stream { stream < n }
-        ensures ok { (fed : List (List ℕ)) (s : Followed) → IsAt format n fed s self.old → OnOk result ((t : Followed) × HasFed format (with_piece fed (record { stream = stream; bytes = bytes.now })) s t × IsAt format n (with_piece fed (record { stream = stream; bytes = bytes.now })) t self.new) }
-        ensures bad { (fed : List (List ℕ)) (s : Followed) (fault : OneFault) → IsAt format n fed s self.old → result ≡ Err (refusals.Bad fault) → read_now format (with_piece fed (record { stream = stream; bytes = bytes.now })) s.order ≡ Err fault }
-        ensures no_memory { (fed : List (List ℕ)) (s : Followed) → IsAt format n fed s self.old → result ≡ Err refusals.NoMemory → IsAt format n fed s self.new }
-        ensures tables { OnErr result (self.new.tables ≡ self.old.tables) }
-    {
-        match self.wait_head(stream, bytes) {
-            Ok(true) => Ok(()),
-            Ok(false) => match self.feed_on(alloc, format, n, stream, bytes) {
-                Ok(()) => Ok(()),
-                Err(e) => Err(e),
-            },
-            Err(_) => Err(LogRefusal::NoMemory),
-        }
-    }
-
     /// Feeds bytes to a stream: reads, judges, and applies what is ready until nothing is.
     pub fn feed(
         &mut self,
@@ -472,12 +458,6 @@ impl State {
             return match self.wait(stream, bytes) {
                 Ok(()) => Ok(()),
                 Err(_) => Err(LogRefusal::NoMemory),
-            };
-        }
-        if is_head_by(self.readers.as_slice(), stream, bytes.len()) {
-            return match self.feed_more(alloc, format, n, stream, bytes) {
-                Ok(()) => Ok(()),
-                Err(e) => Err(e),
             };
         }
         match self.feed_on(alloc, format, n, stream, bytes) {

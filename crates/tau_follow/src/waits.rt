@@ -97,6 +97,7 @@ fn look_at(
 }
 
 /// Has those that wait for no more than this position be looked at.
+#[inline(always)]
 fn drain(looked: &mut Vec<Spot>, queue: &mut Queue, reached: u64) -> Result<(), NoMemory>
     ensures moves { OnOk result (Moves looked.old.items queue.old looked.new.items queue.new) }
     ensures above { OnOk result (AreAbove reached queue.new) }

@@ -43,6 +43,19 @@ fn a_fault_stays(rt: HostRuntime) -> Result<(), Fail> {
     goes(&rt, 2, &steps)
 }
 
+// A byte by which a record is not whole is refused too.
+#[test]
+fn a_fault_stays_while_a_record_waits(rt: HostRuntime) -> Result<(), Fail> {
+    let steps = [
+        Step::Applies(1, part(second(), 0, 30), 0),
+        Step::Applies(1, part(second(), 30, 31), 0),
+        Step::Refuses(0, &[9], bad(0, 0, RecordCause::BadKind)),
+        Step::Refuses(1, part(second(), 31, 32), bad(0, 0, RecordCause::BadKind)),
+        Step::Counts(0),
+    ];
+    goes(&rt, 2, &steps)
+}
+
 #[test]
 fn streams_declare_one_thing(rt: HostRuntime) -> Result<(), Fail> {
     let fault = LogFault {

@@ -9,25 +9,18 @@ use Rattle.tau_follow.proofs.Feeding.{got_at, read_fed}
 use Rattle.tau_follow.proofs.Cut.{set_same, read_as}
 use Rattle.tau_follow.proofs.feed.wait_head.Goals as goal
 
-pub returns-in-Ok-clause-short : goal.returns-in-Ok-clause-short
-returns-in-Ok-clause-short c = λ f n fed streams lt a yes.
+pub returns-clause-put : goal.returns-clause-put
+returns-clause-put c = λ f n fed streams lt a yes.
     (let p : Piece = record { stream = c.args.stream; bytes = c.args.bytes.now } in
     let wide = a.wide in
     let ps = some_at streams c.args.stream (omega (arith, lt, wide)) in
     let there = got_at c.args.readers.now.items c.args.stream c.index_mut.result.now (omega (arith, c.if-j-len.false, c.len.ensures)) c.index_mut.ensures.value in
-    let w = c.in-Ok.ensures.short f n (slice_index_or fed c.args.stream []) ps.0 (a.each c.args.stream ps.0 c.index_mut.result.now ps.1 there) yes in
+    let w = c.wait_head.ensures.put f n (slice_index_or fed c.args.stream []) ps.0 (a.each c.args.stream ps.0 c.index_mut.result.now ps.1 there) yes in
     subst (λ (l : List (List Placed)). AreRead f n (with_piece fed p) l (set c.args.readers.now.items c.args.stream c.wait_head.new.self)) (set_same streams c.args.stream ps.0 ps.1) (read_fed f n fed streams c.args.readers.now.items p ps.0 c.wait_head.new.self a (omega (arith, lt, wide)) w.0 w.1))
 
-pub returns-in-Ok-clause-same : goal.returns-in-Ok-clause-same
-returns-in-Ok-clause-same c = λ f n fed streams lt a no.
+pub returns-clause-same : goal.returns-clause-same
+returns-clause-same c = λ f n fed streams lt a no.
     (let wide = a.wide in
     let ps = some_at streams c.args.stream (omega (arith, lt, wide)) in
     let there = got_at c.args.readers.now.items c.args.stream c.index_mut.result.now (omega (arith, c.if-j-len.false, c.len.ensures)) c.index_mut.ensures.value in
-    read_as f n fed streams c.args.readers.now.items c.args.stream ps.0 c.wait_head.new.self a ps.1 (c.in-Ok.ensures.same f n (slice_index_or fed c.args.stream []) ps.0 (a.each c.args.stream ps.0 c.index_mut.result.now ps.1 there) no))
-
-pub returns-in-Err-clause-err : goal.returns-in-Err-clause-err
-returns-in-Err-clause-err c = λ f n fed streams lt a.
-    (let wide = a.wide in
-    let ps = some_at streams c.args.stream (omega (arith, lt, wide)) in
-    let there = got_at c.args.readers.now.items c.args.stream c.index_mut.result.now (omega (arith, c.if-j-len.false, c.len.ensures)) c.index_mut.ensures.value in
-    read_as f n fed streams c.args.readers.now.items c.args.stream ps.0 c.wait_head.new.self a ps.1 (c.in-Err.ensures.err f n (slice_index_or fed c.args.stream []) ps.0 (a.each c.args.stream ps.0 c.index_mut.result.now ps.1 there)))
+    read_as f n fed streams c.args.readers.now.items c.args.stream ps.0 c.wait_head.new.self a ps.1 (c.wait_head.ensures.same f n (slice_index_or fed c.args.stream []) ps.0 (a.each c.args.stream ps.0 c.index_mut.result.now ps.1 there) no))

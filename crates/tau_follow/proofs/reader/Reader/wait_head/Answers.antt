@@ -8,8 +8,8 @@ use Rattle.tau_follow.proofs.Going.{extend_read, keep_read, stop_ok}
 use Rattle.tau_follow.proofs.Cut.{short_now}
 use Rattle.tau_follow.proofs.reader.Reader.wait_head.Goals as goal
 
-pub returns-then-lacks-gt0-clause-short : goal.returns-then-lacks-gt0-clause-short
-returns-then-lacks-gt0-clause-short c = λ f n content ps g yes.
+pub returns-then-lacks-gt0-clause-put : goal.returns-then-lacks-gt0-clause-put
+returns-then-lacks-gt0-clause-put c = λ f n content ps g yes.
     (let r = c.args.self.now in
     let bytes = c.args.bytes.now in
     let t = extend_read f n content bytes ps r _ g.going c.in-Ok.ensures.ok refl refl refl refl in

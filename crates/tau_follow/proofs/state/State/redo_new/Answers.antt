@@ -31,7 +31,7 @@ returns-in-Ok-renew_rows-clause-ok c = λ s d within store rows.
       redone = redone_all c.args.self.now.declarations.procs t c.args.self.now.streams.items c.follow.new.self.order.items _ _ _ spots (omega (arith, c.len-self.ensures)) all
           (c.in-Ok-renew_rows.ensures.ok (database c.args.self.now.store)
           (λ stood. subst (λ (db : Db). IsTablesOf db c.args.self.now.tables) (sym (store ∙ ap (redone_of c.args.self.now.declarations.procs) (all_there c.args.self.now.streams.items s c.args.self.now.applier c.args.self.now.done d within (let same = c.is_same-stood.ensures stood in omega (arith, same, c.len.ensures))))) rows)
-          (c.in-Ok-redo_from.ensures.noted (database c.args.self.now.store) (ap (λ (l : List (Key × Value)). after l (database c.args.self.now.store)) (sym c.new-noted.ensures.items))
+          (c.in-Ok-redo_from.ensures.noted (database c.args.self.now.store) (ap (λ (l : List (Key × Value)). after l (database c.args.self.now.store)) (sym c.clear.ensures.items))
           ∙ ap (λ (l : List (Key × Value)). after l (database c.args.self.now.store)) (sym c.as_slice-4.ensures.value)));
     })
 
@@ -44,5 +44,5 @@ returns-in-Err-redo_from-clause-applied c = λ s d. subst (λ (l : List (List Pl
 pub returns-in-Ok-renew_rows-clause-applied : goal.returns-in-Ok-renew_rows-clause-applied
 returns-in-Ok-renew_rows-clause-applied c = λ s d. subst (λ (l : List (List Placed)). HasApplied l s c.follow.new.self) c.as_slice.ensures.value (c.in-Ok.ensures.applied s (subst (λ (l : List (List Placed)). HasApplied l s c.args.self.now.applier) (sym c.as_slice.ensures.value) d))
 
-pub returns-clause-applied : goal.returns-clause-applied
-returns-clause-applied c = λ s d. subst (λ (l : List (List Placed)). HasApplied l s c.follow.new.self) c.as_slice.ensures.value (c.in-Ok.ensures.applied s (subst (λ (l : List (List Placed)). HasApplied l s c.args.self.now.applier) (sym c.as_slice.ensures.value) d))
+pub returns-in-Err-renew_rows-clause-applied : goal.returns-in-Err-renew_rows-clause-applied
+returns-in-Err-renew_rows-clause-applied c = λ s d. subst (λ (l : List (List Placed)). HasApplied l s c.follow.new.self) c.as_slice.ensures.value (c.in-Ok.ensures.applied s (subst (λ (l : List (List Placed)). HasApplied l s c.args.self.now.applier) (sym c.as_slice.ensures.value) d))
