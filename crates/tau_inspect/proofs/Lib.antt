@@ -19,6 +19,7 @@ pub mod Spellings
 pub mod Staged
 pub mod Due
 pub mod Walking
+pub mod Passed
 pub mod Steps
 pub mod Followed
 pub mod Mapped

@@ -1,10 +1,10 @@
 -- If no call of the order is missing, two checks pass.
-use Rattle.std.proofs.Common.{ℕ, ◌≡◌, ◌||◌, Bool, true, false, List, [], ◌∷◌, ◌++◌, ◌⊎◌, inl, inr, refl, subst, not, ◌&&◌}
+use Rattle.std.proofs.Common.{◌≡◌, ◌||◌, Bool, true, false, List, [], ◌∷◌, ◌++◌, inl, inr, refl, subst, not, ◌&&◌}
 use Rattle.std.specs.List.{list_any}
 use Rattle.std.proofs.lemmas.Bool.{both_ways}
 use Rattle.tau_model.specs.History.{Act, Numbered, Member, Before, Depends, at_once, through, updates}
 use Rattle.tau_inspect.specs.declared.verdict.Check.TheVariants as check
-use Rattle.tau_inspect.specs.Audit.{Case, acts, is_taken, Pass, before, Survives, FitsAck, FitsClosed}
+use Rattle.tau_inspect.specs.Audit.{Case, acts, is_taken, Pass, before, Survives}
 use Rattle.tau_inspect.specs.Taint.{is_missing, DependsOnMissing}
 
 not_any : {A : Type 0} (p : A → Bool) (xs : List A) (x : A) → list_any p xs ≡ false → Member x xs → p x ≡ false

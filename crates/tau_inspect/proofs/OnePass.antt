@@ -1,12 +1,14 @@
 -- Numbers and lines that are read in one pass.
 use Rattle.std.proofs.lemmas.Bool.Decides.{nat_tests}
-use Rattle.std.proofs.Common.{ℕ, zero, suc, ◌==◌, ◌+◌, ◌-◌, ◌*◌, ◌^◌, ◌<◌, ◌≤◌, ◌≡◌, Bool, true, false, ℤ, pos, List, [], ◌∷◌, ◌++◌, length, take, drop, get_or, refl, sym, ap, subst, ◌∙◌, append_assoc, arith, Option}
+use Rattle.std.proofs.Common.{ℕ, zero, suc, ◌==◌, ◌+◌, ◌-◌, ◌*◌, ◌^◌, ◌%◌, ◌<◌, ◌≤◌, ◌≡◌, inl, inr, Bool, true, false, pos, List, [], ◌∷◌, ◌++◌, length, take, drop, get_or, refl, sym, ap, subst, ◌∙◌, append_assoc, arith, Option}
 use Rattle.std.specs.Prelude.{Some, None, IfSome, codes, slice_set}
 use Rattle.std.specs.Fmt.{decimal}
 use Rattle.std.proofs.Math.ListN.{length-set}
-use Rattle.std.proofs.Common.{w64, to_z, add-one}
+use Rattle.std.proofs.Common.{w64, to_z, add-one, mod-eq_of_lt}
 use Rattle.std.proofs.lemmas.Fmt.{decimal_digit}
 use Rattle.std.proofs.lemmas.Int.{to_z_pos}
+use Rattle.std.proofs.lemmas.Nat.{mod_low}
+use Rattle.tau_base.proofs.Logic.{below_or_not}
 use Rattle.std.proofs.lemmas.List.{take_more, take_more_set, take_all}
 use Rattle.tau_text.specs.Spelled.{is_digit, digits_after}
 use Rattle.tau_text_laws.proofs.Unique.{first_digit}
@@ -141,10 +143,22 @@ line_is {A} spell Fits text line rest a l read = (subst (λ (w : List ℕ). IsLi
 
 -- ---- numbers of few digits
 
-pub few_more : (value i b : ℕ) → 48 ≤ b → b ≤ 57 → value < 10 ^ i → value * 10 + b - 48 < 10 ^ (i + 1)
-few_more value i b low high few =
-    let more : value * 10 + b - 48 < 10 ^ suc i = omega (arith, low, high, few) in
-    subst (λ (k : ℕ). value * 10 + b - 48 < 10 ^ k) (sym (add-one i)) more
+-- a byte less 48, as a number of 64 bits, is at most 9 only if the byte is a digit
+pub digit_of : (b d : ℕ) → b < 2 ^ 64 → d ≡ (b + (2 ^ 64 - 48)) % 2 ^ 64 → d ≤ 9 → (48 ≤ b) × (b ≤ 57) × (d ≡ b - 48)
+digit_of b d byte is low = elim (below_or_not b 48) [
+  | inl less ↦
+      let same : (b + (2 ^ 64 - 48)) % 2 ^ 64 ≡ b + (2 ^ 64 - 48) = mod-eq_of_lt (omega (arith, less)) in
+      absurd (omega (arith, is, same, low))
+  | inr ge ↦
+      let split : b + (2 ^ 64 - 48) ≡ 1 * 2 ^ 64 + (b - 48) = omega (arith, ge) in
+      let same : d ≡ b - 48 = is ∙ ap (λ (n : ℕ). n % 2 ^ 64) split ∙ mod_low 1 64 (b - 48) (omega (arith, byte)) in
+      (ge, omega (arith, same, low, ge), same)
+]
+
+pub few_more : (value i d : ℕ) → d ≤ 9 → value < 10 ^ i → value * 10 + d < 10 ^ (i + 1)
+few_more value i d high few =
+    let more : value * 10 + d < 10 ^ suc i = omega (arith, high, few) in
+    subst (λ (k : ℕ). value * 10 + d < 10 ^ k) (sym (add-one i)) more
 
 pub few_signed : (n : ℕ) → n < 10 ^ 18 → to_z w64 n ≡ pos n
 few_signed n few = to_z_pos w64 n (omega (arith, few))

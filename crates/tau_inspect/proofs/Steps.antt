@@ -9,9 +9,9 @@ use Rattle.tau_base.specs.declared.value.Value.{Value}
 use Rattle.tau_model.specs.History.{Act, Numbered, updates, updating}
 use Rattle.tau_scan.specs.Taken.{Kept}
 use Rattle.tau_inspect.specs.declared.walk.Walk.{Walk}
-use Rattle.tau_inspect.specs.Audit.{Case, records, due, FitsOrder}
+use Rattle.tau_inspect.specs.Audit.{Case, records, due, FitsOrder, FitsReply}
 use Rattle.tau_inspect.specs.Firsts.{AllFit}
-use Rattle.tau_inspect.specs.Walks.{of_stream, head_of, start_or, head_passes, next_of, Goes, IsAt, IsLowest, IsReach, Step, Walks}
+use Rattle.tau_inspect.specs.Walks.{of_stream, head_of, start_or, head_passes, next_of, Goes, IsAt, IsFor, IsLowest, IsReach, Step, Walks}
 
 past_all : {A : Type 0} (xs : List A) (i : ℕ) → length xs ≤ i → slice_get xs i ≡ None
 past_all [] i le = refl
@@ -83,33 +83,33 @@ pub lowest_within : (all : List Kept) (w : Walk) (j : ℕ) → IsLowest all w j 
 lowest_within all w j low = found_within all (slice_index w.nexts.items j) j (ap (λ (o : Option Kept). is_some o) low.next)
 
 -- what it is to pass the record of a stream
-abbrev pub GoesIn : List Kept → List ℕ → ℕ → Walk → Walk → ℕ → Type 0
-GoesIn all ends number w new k = (l : IsLowest all w k) → l.one.number ≡ number → new.nexts.items ≡ slice_set w.nexts.items k (suc (slice_index w.nexts.items k)) →
+abbrev pub GoesIn : List Kept → List ℕ → (Kept → Type 0) → ℕ → Walk → Walk → ℕ → Type 0
+GoesIn all ends Fits number w new k = (l : IsLowest all w k) → Fits l.one → l.one.number ≡ number → new.nexts.items ≡ slice_set w.nexts.items k (suc (slice_index w.nexts.items k)) →
     new.reach ≡ slice_set w.reach k (start_or (next_of all new k) (slice_index ends k)) → l.one.place.start ≤ start_or (next_of all new k) (slice_index ends k) →
-    new.passed ≡ true → new.start ≡ l.one.place.start → Goes all ends number w new
+    new.passed ≡ true → new.start ≡ l.one.place.start → Goes all ends Fits number w new
 
-goes_in : (all : List Kept) (ends : List ℕ) (number : ℕ) (w new : Walk) → GoesIn all ends number w new new.stream
-goes_in all ends number w new l named nexts reach rises passed start = record { lowest = l; named = named; nexts = nexts; reach = reach; rises = rises; passed = passed; start = start }
+goes_in : (all : List Kept) (ends : List ℕ) (Fits : Kept → Type 0) (number : ℕ) (w new : Walk) → GoesIn all ends Fits number w new new.stream
+goes_in all ends Fits number w new l fits named nexts reach rises passed start = record { lowest = l; fits = fits; named = named; nexts = nexts; reach = reach; rises = rises; passed = passed; start = start }
 
-pub goes : (all : List Kept) (ends : List ℕ) (number : ℕ) (w new : Walk) (j next : ℕ) (q : Kept) → IsLowest all w j → new.stream ≡ j → q ≡ slice_index_or all (slice_index w.nexts.items j) q → q.number ≡ number →
+pub goes : (all : List Kept) (ends : List ℕ) (Fits : Kept → Type 0) (number : ℕ) (w new : Walk) (j next : ℕ) (q : Kept) → Fits q → IsLowest all w j → new.stream ≡ j → q ≡ slice_index_or all (slice_index w.nexts.items j) q → q.number ≡ number →
     new.nexts.items ≡ slice_set w.nexts.items j (suc (slice_index w.nexts.items j)) → new.reach ≡ slice_set w.reach j next → next ≡ start_or (head_of all (suc (slice_index w.nexts.items j)) j) (slice_index ends j) →
-    q.place.start ≤ next → new.passed ≡ true → new.start ≡ q.place.start → Goes all ends number w new
-goes all ends number w new j next q low at is named nexts reach next_is rises passed start =
+    q.place.start ≤ next → new.passed ≡ true → new.start ≡ q.place.start → Goes all ends Fits number w new
+goes all ends Fits number w new j next q fits low at is named nexts reach next_is rises passed start =
     let same : q ≡ low.one = (found_one all (slice_index w.nexts.items j) j low.one q low.next is).1 in
     let here : slice_index new.nexts.items j ≡ suc (slice_index w.nexts.items j) = ap (λ (l : List ℕ). slice_index l j) nexts ∙ get_or-set_same w.nexts.items j (suc (slice_index w.nexts.items j)) 0 low.within in
     let after : next ≡ start_or (next_of all new j) (slice_index ends j) = next_is ∙ ap (λ (i : ℕ). start_or (head_of all i j) (slice_index ends j)) (sym here) in
     let first : q.place.start ≡ low.one.place.start = ap (λ (z : Kept). z.place.start) same in
-    subst (GoesIn all ends number w new) at (goes_in all ends number w new) low (ap (λ (z : Kept). z.number) (sym same) ∙ named) nexts
+    subst (GoesIn all ends Fits number w new) at (goes_in all ends Fits number w new) low (subst Fits same fits) (ap (λ (z : Kept). z.number) (sym same) ∙ named) nexts
     (reach ∙ ap (slice_set w.reach j) after) (omega (arith, rises, after, first)) passed (start ∙ first)
 
 -- the next record of another stream stays
-pub other_next : (all : List Kept) (ends : List ℕ) (number : ℕ) (w new : Walk) → Goes all ends number w new → (j : ℕ) → (j ≡ new.stream → ⊥) → next_of all new j ≡ next_of all w j
-other_next all ends number w new g j other = ap (λ (i : ℕ). head_of all i j)
+pub other_next : (all : List Kept) (ends : List ℕ) (Fits : Kept → Type 0) (number : ℕ) (w new : Walk) → Goes all ends Fits number w new → (j : ℕ) → (j ≡ new.stream → ⊥) → next_of all new j ≡ next_of all w j
+other_next all ends Fits number w new g j other = ap (λ (i : ℕ). head_of all i j)
     (ap (λ (l : List ℕ). slice_index l j) g.nexts ∙ get_or-set_other w.nexts.items new.stream j (suc (slice_index w.nexts.items new.stream)) 0 other)
 
 -- a step leaves a walk with its indices and starts
-pub step_at : (all : List Kept) (acks : List (ℕ × List ℕ)) (ends : List ℕ) (number : ℕ) (w new : Walk) (b : Bool) → Step all acks ends b number w new → IsAt all ends w → IsAt all ends new
-step_at all acks ends number w new true g at =
+pub step_at : (all : List Kept) (acks : List (ℕ × List ℕ)) (ends : List ℕ) (Fits : Kept → Type 0) (number : ℕ) (w new : Walk) (b : Bool) → Step all acks ends Fits b number w new → IsAt all ends w → IsAt all ends new
+step_at all acks ends Fits number w new true g at =
     let next : ℕ = start_or (next_of all new new.stream) (slice_index ends new.stream) in
     record {
       nexts = ap length g.nexts ∙ length-set w.nexts.items new.stream (suc (slice_index w.nexts.items new.stream)) ∙ at.nexts;
@@ -120,11 +120,11 @@ step_at all acks ends number w new true g at =
               (ap (λ (l : List ℕ). slice_index l new.stream) g.reach ∙ get_or-set_same w.reach new.stream next 0 (omega (arith, g.lowest.within, at.nexts, at.reach.long)))
           | inr other ↦
               ap (λ (l : List ℕ). slice_index l k) g.reach ∙ get_or-set_other w.reach new.stream k next 0 other ∙ at.reach.starts k lt
-              ∙ ap (λ (o : Option Kept). start_or o (slice_index ends k)) (sym (other_next all ends number w new g k other))
+              ∙ ap (λ (o : Option Kept). start_or o (slice_index ends k)) (sym (other_next all ends Fits number w new g k other))
         ];
       };
     }
-step_at all acks ends number w new false r at =
+step_at all acks ends Fits number w new false r at =
     let nexts : new.nexts.items ≡ w.nexts.items = λ i. (r.0.same.0 i).items in
     record {
       nexts = ap length nexts ∙ at.nexts;
@@ -142,11 +142,11 @@ no_writes [] le = refl
 no_writes (w ∷ ws) le = absurd (omega (arith, le))
 
 -- one call more
-pub walked : (c : Case) (w new first : Walk) (xs : List (Act Numbered)) (i : ℕ) (x : Act Numbered) → slice_get xs i ≡ Some x → Step (records c) c.report.acks c.log.elv (updates x.effect) x.call.number w new →
-    (Walks c w (drop i xs) → Walks c first xs) → Walks c new (drop (i + 1) xs) → Walks c first xs
-walked c w new first xs i x at step before after =
+pub walked : (c : Case) (w new first : Walk) (xs : List (Act Numbered)) (i : ℕ) (x : Act Numbered) → slice_get xs i ≡ Some x → Step (records c) c.report.acks c.log.elv (IsFor c x.call.number x.effect.writes) (updates x.effect) x.call.number w new → FitsReply c [] x →
+    ((stop : Walk) → Walks c w (drop i xs) stop → Walks c first xs stop) → (stop : Walk) → Walks c new (drop (i + 1) xs) stop → Walks c first xs stop
+walked c w new first xs i x at step said before stop after =
     let more : i + 1 ≡ suc i = omega arith in
-    before (subst (Walks c w) (sym (drop_at xs i x at)) (new, step, subst (λ (k : ℕ). Walks c new (drop k xs)) more after))
+    before stop (subst (λ (ys : List (Act Numbered)). Walks c w ys stop) (sym (drop_at xs i x at)) (new, step, said, subst (λ (k : ℕ). Walks c new (drop k xs) stop) more after))
   where
     drop_at : (ys : List (Act Numbered)) (j : ℕ) (y : Act Numbered) → slice_get ys j ≡ Some y → drop j ys ≡ y ∷ drop (suc j) ys
     drop_at [] j y got = absurd (none got)

@@ -21,9 +21,9 @@ use Rattle.tau_model.proofs.Weaving.{each_set, each_same}
 use Rattle.tau_scan.specs.Taken.{Kept}
 use Rattle.tau_inspect.specs.declared.walk.Walk.{Walk}
 use Rattle.tau_inspect.specs.ByNumber.{IsUnique}
-use Rattle.tau_inspect.specs.Audit.{Case, acts, records, has_record, has_ack, nowhere, place_in, vector_in, place_of, is_told}
+use Rattle.tau_inspect.specs.Audit.{FitsReply, Case, acts, records, has_record, has_ack, nowhere, place_in, vector_in, place_of, is_told}
 use Rattle.tau_inspect.specs.Executed.{history, numbered}
-use Rattle.tau_inspect.specs.Walks.{of_stream, head_of, start_or, head_passes, next_of, IsAt, Goes, IsFollowed, Step, Walks}
+use Rattle.tau_inspect.specs.Walks.{of_stream, head_of, start_or, head_passes, next_of, IsAt, Goes, IsFollowed, IsFor, Step, Walks}
 use Rattle.tau_inspect.proofs.Due.{place_there}
 use Rattle.tau_inspect.proofs.Steps.{other_next, step_at}
 use Rattle.tau_inspect.proofs.Acts.{none_some, in_get}
@@ -65,7 +65,7 @@ filter_out p x xs e = rw e refl
 
 -- ---- a record at an index
 
-head_found : (o : Option Kept) (stream : ℕ) (r : Kept) → of_stream stream o ≡ Some r → (o ≡ Some r) × (r.place.stream ≡ stream)
+pub head_found : (o : Option Kept) (stream : ℕ) (r : Kept) → of_stream stream o ≡ Some r → (o ≡ Some r) × (r.place.stream ≡ stream)
 head_found None stream r e = absurd (none_some r e)
 head_found (Some q) stream r e = elim (cases_Bool (q.place.stream == stream)) [
   | inl is ↦
@@ -94,7 +94,7 @@ filter_there p (q ∷ qs) (suc i) r e t = elim (cases_Bool (p q)) [
   | inr no' ↦ ap (has_record r.number) (filter_out p q qs no') ∙ filter_there p qs i r e t
 ]
 
-module _ (c : Case) (once : IsUnique (map (λ (r : Kept). r.number) (records c))) where
+module _ (c : Case) (once : IsUnique (map (λ (r : Kept). r.number) (records c))) (stop : Walk) where
   abbrev number : Act Numbered → ℕ
   number x = x.call.number
 
@@ -123,7 +123,7 @@ module _ (c : Case) (once : IsUnique (map (λ (r : Kept). r.number) (records c))
   -- ---- a step
 
   module _ (x : Act Numbered) (w new : Walk) where
-    went_place : updates x.effect ≡ true → (g : Goes (records c) c.log.elv x.call.number w new) → (place_of c x ≡ g.lowest.one.place) × (g.lowest.one.place.stream ≡ new.stream)
+    went_place : updates x.effect ≡ true → (g : Goes (records c) c.log.elv (IsFor c x.call.number x.effect.writes) x.call.number w new) → (place_of c x ≡ g.lowest.one.place) × (g.lowest.one.place.stream ≡ new.stream)
     went_place u g =
         let found = head_found (slice_get (records c) (slice_index w.nexts.items new.stream)) new.stream g.lowest.one g.lowest.next in (
           ap (λ (b : Bool). if b then place_in x.call.number (records c) else nowhere (vector_in x.call.number c.report.acks)) u
@@ -134,12 +134,12 @@ module _ (c : Case) (once : IsUnique (map (λ (r : Kept). r.number) (records c))
     read_place : updates x.effect ≡ false → (place_of c x).dep ≡ vector_in x.call.number c.report.acks
     read_place u = ap (λ (b : Bool). (if b then place_in x.call.number (records c) else nowhere (vector_in x.call.number c.report.acks)).dep) u
 
-    went_along : (u : updates x.effect ≡ true) (g : Goes (records c) c.log.elv x.call.number w new) (xs : List (Act Numbered)) (j : ℕ) → (j ≡ new.stream → ⊥) → along j (x ∷ xs) ≡ along j xs
+    went_along : (u : updates x.effect ≡ true) (g : Goes (records c) c.log.elv (IsFor c x.call.number x.effect.writes) x.call.number w new) (xs : List (Act Numbered)) (j : ℕ) → (j ≡ new.stream → ⊥) → along j (x ∷ xs) ≡ along j xs
     went_along u g xs j other =
         let placed = went_place u g in
         filter_out (inside j) x xs (not_here x j (λ e. other (sym e ∙ ap (λ (p : Place). p.stream) placed.0 ∙ placed.1)))
 
-    went_on : (u : updates x.effect ≡ true) (g : Goes (records c) c.log.elv x.call.number w new) (xs : List (Act Numbered)) → along new.stream (x ∷ xs) ≡ x ∷ along new.stream xs
+    went_on : (u : updates x.effect ≡ true) (g : Goes (records c) c.log.elv (IsFor c x.call.number x.effect.writes) x.call.number w new) (xs : List (Act Numbered)) → along new.stream (x ∷ xs) ≡ x ∷ along new.stream xs
     went_on u g xs =
         let placed = went_place u g in
         filter_in (inside new.stream) x xs (in_here x new.stream u (ap (λ (p : Place). p.stream) placed.0 ∙ placed.1))
@@ -148,17 +148,17 @@ module _ (c : Case) (once : IsUnique (map (λ (r : Kept). r.number) (records c))
     read_along u xs j = filter_out (inside j) x xs (reader_out x j u)
 
     -- where the record that is passed starts
-    went_start : (g : Goes (records c) c.log.elv x.call.number w new) → IsAt (records c) c.log.elv w → slice_index w.reach new.stream ≡ g.lowest.one.place.start
+    went_start : (g : Goes (records c) c.log.elv (IsFor c x.call.number x.effect.writes) x.call.number w new) → IsAt (records c) c.log.elv w → slice_index w.reach new.stream ≡ g.lowest.one.place.start
     went_start g at = at.reach.starts new.stream (omega (arith, g.lowest.within, at.nexts)) ∙ ap (λ (o : Option Kept). start_or o (slice_index c.log.elv new.stream)) g.lowest.next
 
-    went_rises : (g : Goes (records c) c.log.elv x.call.number w new) → IsAt (records c) c.log.elv w → AtMost w.reach new.reach
+    went_rises : (g : Goes (records c) c.log.elv (IsFor c x.call.number x.effect.writes) x.call.number w new) → IsAt (records c) c.log.elv w → AtMost w.reach new.reach
     went_rises g at =
         let s = went_start g at in
         let next : ℕ = start_or (next_of (records c) new new.stream) (slice_index c.log.elv new.stream) in
         subst (AtMost w.reach) (sym g.reach) (rising_set w.reach new.stream next (omega (arith, g.lowest.within, at.nexts, at.reach.long)) (omega (arith, s, g.rises)))
 
-    at_step : (b : Bool) → Step (records c) c.report.acks c.log.elv b x.call.number w new → IsAt (records c) c.log.elv w → IsAt (records c) c.log.elv new
-    at_step b step at = step_at (records c) c.report.acks c.log.elv x.call.number w new b step at
+    at_step : (b : Bool) → Step (records c) c.report.acks c.log.elv (IsFor c x.call.number x.effect.writes) b x.call.number w new → IsAt (records c) c.log.elv w → IsAt (records c) c.log.elv new
+    at_step b step at = step_at (records c) c.report.acks c.log.elv (IsFor c x.call.number x.effect.writes) x.call.number w new b step at
 
   -- ---- the next records are the first calls in the streams
 
@@ -166,11 +166,11 @@ module _ (c : Case) (once : IsUnique (map (λ (r : Kept). r.number) (records c))
   IsHead None ys = ys ≡ []
   IsHead (Some r) ys = (x : Act Numbered) × (rest : List (Act Numbered)) × (ys ≡ x ∷ rest) × (place_of c x ≡ r.place)
 
-  heads : (xs : List (Act Numbered)) (w : Walk) → Walks c w xs → (j : ℕ) → j < length c.log.elv → IsHead (next_of (records c) w j) (along j xs)
-  heads [] w h j lt = subst (λ (o : Option Kept). IsHead o []) (sym (h j lt)) refl
-  heads (x ∷ xs) w (new, step, h) j lt = by_up (updates x.effect) refl step (heads xs new h j lt)
+  heads : (xs : List (Act Numbered)) (w : Walk) → Walks c w xs stop → (j : ℕ) → j < length c.log.elv → IsHead (next_of (records c) w j) (along j xs)
+  heads [] w h j lt = subst (λ (o : Option Kept). IsHead o []) (sym (h.1 j lt)) refl
+  heads (x ∷ xs) w (new, step, said, h) j lt = by_up (updates x.effect) refl step (heads xs new h j lt)
     where
-      by_up : (b : Bool) → updates x.effect ≡ b → Step (records c) c.report.acks c.log.elv b x.call.number w new → IsHead (next_of (records c) new j) (along j xs) →
+      by_up : (b : Bool) → updates x.effect ≡ b → Step (records c) c.report.acks c.log.elv (IsFor c x.call.number x.effect.writes) b x.call.number w new → IsHead (next_of (records c) new j) (along j xs) →
           IsHead (next_of (records c) w j) (along j (x ∷ xs))
       by_up true u g rest = elim (cases_eq j new.stream) [
         | inl same ↦ subst (λ (o : Option Kept). IsHead o (along j (x ∷ xs))) (sym (ap (next_of (records c) w) same ∙ g.lowest.next)) (
@@ -180,7 +180,7 @@ module _ (c : Case) (once : IsUnique (map (λ (r : Kept). r.number) (records c))
           (went_place x w new u g).0,
         )
         | inr other ↦ subst (λ (l : List (Act Numbered)). IsHead (next_of (records c) w j) l) (sym (went_along x w new u g xs j other))
-            (subst (λ (o : Option Kept). IsHead o (along j xs)) (other_next (records c) c.log.elv x.call.number w new g j other) rest)
+            (subst (λ (o : Option Kept). IsHead o (along j xs)) (other_next (records c) c.log.elv (IsFor c x.call.number x.effect.writes) x.call.number w new g j other) rest)
       ]
       by_up false u r rest =
           subst (λ (l : List (Act Numbered)). IsHead (next_of (records c) w j) l) (sym (read_along x w new u xs j))
@@ -202,7 +202,7 @@ module _ (c : Case) (once : IsUnique (map (λ (r : Kept). r.number) (records c))
   abbrev streams : List (Act Numbered) → List (List (Act Numbered))
   streams xs = each (length c.log.elv) (λ j. along j xs)
 
-  emitted_is : (xs : List (Act Numbered)) (w : Walk) → Walks c w xs → IsAt (records c) c.log.elv w → emitted (place_of c) (streams xs) c.log.elv ≡ w.reach
+  emitted_is : (xs : List (Act Numbered)) (w : Walk) → Walks c w xs stop → IsAt (records c) c.log.elv w → emitted (place_of c) (streams xs) c.log.elv ≡ w.reach
   emitted_is xs w h at =
       let wide : length (streams xs) ≡ length c.log.elv = length_each (length c.log.elv) (λ j. along j xs) in
       let long : length (emitted (place_of c) (streams xs) c.log.elv) ≡ length c.log.elv = length_emitted (place_of c) (streams xs) c.log.elv wide in
@@ -216,14 +216,14 @@ module _ (c : Case) (once : IsUnique (map (λ (r : Kept). r.number) (records c))
   -- ---- calls that only read
 
   -- what was below the place of the last record covers none of those that are left
-  late : (xs : List (Act Numbered)) (w : Walk) → Walks c w xs → IsAt (records c) c.log.elv w → w.passed ≡ true → (v : List ℕ) → AtMost v w.reach → slice_index v w.stream ≤ w.start →
+  late : (xs : List (Act Numbered)) (w : Walk) → Walks c w xs stop → IsAt (records c) c.log.elv w → w.passed ≡ true → (v : List ℕ) → AtMost v w.reach → slice_index v w.stream ≤ w.start →
       (y : Act Numbered) → Member y xs → updates y.effect ≡ false → passes v y ≡ false
   late [] w h at passed v most low y m u = absurd m
-  late (x ∷ xs) w (new, step, h) at passed v most low y m u =
+  late (x ∷ xs) w (new, step, said, h) at passed v most low y m u =
       by_up (late xs new h (at_step x w new (updates x.effect) step at)) (updates x.effect) refl step
     where
       by_up : (new.passed ≡ true → (v : List ℕ) → AtMost v new.reach → slice_index v new.stream ≤ new.start → (y : Act Numbered) → Member y xs → updates y.effect ≡ false → passes v y ≡ false) →
-          (b : Bool) → updates x.effect ≡ b → Step (records c) c.report.acks c.log.elv b x.call.number w new → passes v y ≡ false
+          (b : Bool) → updates x.effect ≡ b → Step (records c) c.report.acks c.log.elv (IsFor c x.call.number x.effect.writes) b x.call.number w new → passes v y ≡ false
       by_up rest true t g = elim m [
         | inl e ↦ absurd (both_ways (updates y.effect) u (subst (λ (z : Act Numbered). updates z.effect ≡ true) e t))
         | inr n ↦
@@ -242,12 +242,12 @@ module _ (c : Case) (once : IsUnique (map (λ (r : Kept). r.number) (records c))
       ]
 
   -- those that are covered come by ascending numbers
-  above : (xs : List (Act Numbered)) (w : Walk) → Walks c w xs → IsAt (records c) c.log.elv w → (y : Act Numbered) → Member y xs → updates y.effect ≡ false → passes w.reach y ≡ true → w.last < y.call.number
+  above : (xs : List (Act Numbered)) (w : Walk) → Walks c w xs stop → IsAt (records c) c.log.elv w → (y : Act Numbered) → Member y xs → updates y.effect ≡ false → passes w.reach y ≡ true → w.last < y.call.number
   above [] w h at y m u is = absurd m
-  above (x ∷ xs) w (new, step, h) at y m u is =
+  above (x ∷ xs) w (new, step, said, h) at y m u is =
       by_up (λ n. above xs new h (at_step x w new (updates x.effect) step at) y n u) (updates x.effect) refl step
     where
-      by_up : (Member y xs → passes new.reach y ≡ true → new.last < y.call.number) → (b : Bool) → updates x.effect ≡ b → Step (records c) c.report.acks c.log.elv b x.call.number w new → w.last < y.call.number
+      by_up : (Member y xs → passes new.reach y ≡ true → new.last < y.call.number) → (b : Bool) → updates x.effect ≡ b → Step (records c) c.report.acks c.log.elv (IsFor c x.call.number x.effect.writes) b x.call.number w new → w.last < y.call.number
       by_up rest true t g = elim m [
         | inl e ↦ absurd (both_ways (updates y.effect) u (subst (λ (z : Act Numbered). updates z.effect ≡ true) e t))
         | inr n ↦
@@ -270,11 +270,11 @@ module _ (c : Case) (once : IsUnique (map (λ (r : Kept). r.number) (records c))
       let first : put_in start x (y ∷ rest) ≡ x ∷ y ∷ rest = rw (le-leb (start x) (start y) low) refl in
       ap (put_in start x) e ∙ first ∙ ap (λ (l : List (Act Numbered)). x ∷ l) (sym e)
 
-  sorted : (xs : List (Act Numbered)) (w : Walk) → Walks c w xs → IsAt (records c) c.log.elv w → (j : ℕ) → j < length c.log.elv → ascending start (along j xs) ≡ along j xs
+  sorted : (xs : List (Act Numbered)) (w : Walk) → Walks c w xs stop → IsAt (records c) c.log.elv w → (j : ℕ) → j < length c.log.elv → ascending start (along j xs) ≡ along j xs
   sorted [] w h at j lt = refl
-  sorted (x ∷ xs) w (new, step, h) at j lt = by_up (updates x.effect) refl step (sorted xs new h (at_step x w new (updates x.effect) step at) j lt) (heads xs new h j lt)
+  sorted (x ∷ xs) w (new, step, said, h) at j lt = by_up (updates x.effect) refl step (sorted xs new h (at_step x w new (updates x.effect) step at) j lt) (heads xs new h j lt)
     where
-      by_up : (b : Bool) → updates x.effect ≡ b → Step (records c) c.report.acks c.log.elv b x.call.number w new → ascending start (along j xs) ≡ along j xs → IsHead (next_of (records c) new j) (along j xs) →
+      by_up : (b : Bool) → updates x.effect ≡ b → Step (records c) c.report.acks c.log.elv (IsFor c x.call.number x.effect.writes) b x.call.number w new → ascending start (along j xs) ≡ along j xs → IsHead (next_of (records c) new j) (along j xs) →
           ascending start (along j (x ∷ xs)) ≡ along j (x ∷ xs)
       by_up true u g rest head = elim (cases_eq j new.stream) [
         | inl same ↦
@@ -295,7 +295,7 @@ module _ (c : Case) (once : IsUnique (map (λ (r : Kept). r.number) (records c))
   abbrev plain : List (Act Numbered) → Left (Act Numbered)
   plain xs = record { readers = readers xs; streams = streams xs }
 
-  left_is : (xs : List (Act Numbered)) (w : Walk) → Walks c w xs → IsAt (records c) c.log.elv w →
+  left_is : (xs : List (Act Numbered)) (w : Walk) → Walks c w xs stop → IsAt (records c) c.log.elv w →
       left_of (place_of c) (λ (y : Act Numbered). updates y.effect) number (length c.log.elv) xs ≡ plain xs
   left_is xs w h at =
       let rest = each_below (length c.log.elv) (λ j. ascending start (along j xs)) (λ j. along j xs) (λ k lt. sorted xs w h at k lt) in
@@ -313,11 +313,11 @@ module _ (c : Case) (once : IsUnique (map (λ (r : Kept). r.number) (records c))
   abbrev pick_of : List (Act Numbered) → List (List (Act Numbered)) → List ℕ → Option (Act Numbered × Left (Act Numbered))
   pick_of rs ss v = picked rs ss (take_first (passes v) rs) (take_record (passes v) ss)
 
-  picks : (x : Act Numbered) (xs : List (Act Numbered)) (w new : Walk) → Step (records c) c.report.acks c.log.elv (updates x.effect) x.call.number w new → Walks c new xs → IsAt (records c) c.log.elv w →
+  picks : (x : Act Numbered) (xs : List (Act Numbered)) (w new : Walk) → Step (records c) c.report.acks c.log.elv (IsFor c x.call.number x.effect.writes) (updates x.effect) x.call.number w new → FitsReply c [] x → Walks c new xs stop → IsAt (records c) c.log.elv w →
       pick_of (readers (x ∷ xs)) (streams (x ∷ xs)) w.reach ≡ Some (x, plain xs)
-  picks x xs w new step h at = by_up (updates x.effect) refl step
+  picks x xs w new step said h at = by_up (updates x.effect) refl step
     where
-      by_up : (b : Bool) → updates x.effect ≡ b → Step (records c) c.report.acks c.log.elv b x.call.number w new → pick_of (readers (x ∷ xs)) (streams (x ∷ xs)) w.reach ≡ Some (x, plain xs)
+      by_up : (b : Bool) → updates x.effect ≡ b → Step (records c) c.report.acks c.log.elv (IsFor c x.call.number x.effect.writes) b x.call.number w new → pick_of (readers (x ∷ xs)) (streams (x ∷ xs)) w.reach ≡ Some (x, plain xs)
       by_up false u r =
           let rs : readers (x ∷ xs) ≡ put_in number x (readers xs) = ap (ascending number) (filter_in reads x xs (ap not u)) in
           let ss : streams (x ∷ xs) ≡ streams xs = each_same (length c.log.elv) (λ j. along j (x ∷ xs)) (λ j. along j xs) (λ j. read_along x w new u xs j) in
@@ -344,7 +344,7 @@ module _ (c : Case) (once : IsUnique (map (λ (r : Kept). r.number) (records c))
           (λ k lt.
           let below : k < length c.log.elv = omega (arith, lt, low) in
           ap (first_passes (passes w.reach)) (each_at (length c.log.elv) (λ j. along j (x ∷ xs)) k below)
-          ∙ head_covered w.reach (next_of (records c) w k) (along k (x ∷ xs)) (heads (x ∷ xs) w (new, subst (λ (b : Bool). Step (records c) c.report.acks c.log.elv b x.call.number w new) (sym u) g, h) k below)
+          ∙ head_covered w.reach (next_of (records c) w k) (along k (x ∷ xs)) (heads (x ∷ xs) w (new, subst (λ (b : Bool). Step (records c) c.report.acks c.log.elv (IsFor c x.call.number x.effect.writes) b x.call.number w new) (sym u) g, said, h) k below)
           ∙ g.lowest.lower k lt)
           (omega (arith, low, wide)) on here in
           let rest : slice_set (streams (x ∷ xs)) new.stream (along new.stream xs) ≡ streams xs =
@@ -354,25 +354,25 @@ module _ (c : Case) (once : IsUnique (map (λ (r : Kept). r.number) (records c))
           ∙ ap (λ l. Some (x, record { readers = readers xs; streams = l })) rest
 
   -- the calls are listed in the order in which they were passed
-  followed : (xs : List (Act Numbered)) (w : Walk) → Walks c w xs → IsAt (records c) c.log.elv w →
+  followed : (xs : List (Act Numbered)) (w : Walk) → Walks c w xs stop → IsAt (records c) c.log.elv w →
       reported_within (place_of c) (length xs) c.log.elv (left_of (place_of c) (λ (y : Act Numbered). updates y.effect) number (length c.log.elv) xs) ≡ xs
   unfolding reported_within
   followed [] w h at = refl
-  followed (x ∷ xs) w (new, step, h) at =
+  followed (x ∷ xs) w (new, step, said, h) at =
       let on = at_step x w new (updates x.effect) step at in
-      ap (λ l. reported_within (place_of c) (suc (length xs)) c.log.elv l) (left_is (x ∷ xs) w (new, step, h) at)
-      ∙ ap (λ v. listed (pick_of (readers (x ∷ xs)) (streams (x ∷ xs)) v) (λ l. reported_within (place_of c) (length xs) c.log.elv l)) (emitted_is (x ∷ xs) w (new, step, h) at)
-      ∙ ap (λ o. listed o (λ l. reported_within (place_of c) (length xs) c.log.elv l)) (picks x xs w new step h at)
+      ap (λ l. reported_within (place_of c) (suc (length xs)) c.log.elv l) (left_is (x ∷ xs) w (new, step, said, h) at)
+      ∙ ap (λ v. listed (pick_of (readers (x ∷ xs)) (streams (x ∷ xs)) v) (λ l. reported_within (place_of c) (length xs) c.log.elv l)) (emitted_is (x ∷ xs) w (new, step, said, h) at)
+      ∙ ap (λ o. listed o (λ l. reported_within (place_of c) (length xs) c.log.elv l)) (picks x xs w new step said h at)
       ∙ ap (λ l. x ∷ reported_within (place_of c) (length xs) c.log.elv l) (sym (left_is xs new h on))
       ∙ ap (λ l. x ∷ l) (followed xs new h on)
 
   -- each has its record or its acknowledgement
-  told : (xs : List (Act Numbered)) (w : Walk) → Walks c w xs → (y : Act Numbered) → Member y xs → is_told c y ≡ true
+  told : (xs : List (Act Numbered)) (w : Walk) → Walks c w xs stop → (y : Act Numbered) → Member y xs → is_told c y ≡ true
   told [] w h y m = absurd m
-  told (x ∷ xs) w (new, step, h) y (inr m) = told xs new h y m
-  told (x ∷ xs) w (new, step, h) y (inl e) = subst (λ (z : Act Numbered). is_told c z ≡ true) e (by_up (updates x.effect) refl step)
+  told (x ∷ xs) w (new, step, said, h) y (inr m) = told xs new h y m
+  told (x ∷ xs) w (new, step, said, h) y (inl e) = subst (λ (z : Act Numbered). is_told c z ≡ true) e (by_up (updates x.effect) refl step)
     where
-      by_up : (b : Bool) → updates x.effect ≡ b → Step (records c) c.report.acks c.log.elv b x.call.number w new → is_told c x ≡ true
+      by_up : (b : Bool) → updates x.effect ≡ b → Step (records c) c.report.acks c.log.elv (IsFor c x.call.number x.effect.writes) b x.call.number w new → is_told c x ≡ true
       by_up true u g =
           let found = head_found (slice_get (records c) (slice_index w.nexts.items new.stream)) new.stream g.lowest.one g.lowest.next in
           ap (λ (b : Bool). if b then has_record x.call.number (records c) else has_ack x.call.number c.report.acks) u
@@ -387,32 +387,32 @@ module _ (c : Case) (once : IsUnique (map (λ (r : Kept). r.number) (records c))
   -- ---- recovery takes the records
 
   -- nothing is emitted beyond the ends
-  within_ends : (xs : List (Act Numbered)) (w : Walk) → Walks c w xs → IsAt (records c) c.log.elv w → AtMost w.reach c.log.elv
+  within_ends : (xs : List (Act Numbered)) (w : Walk) → Walks c w xs stop → IsAt (records c) c.log.elv w → AtMost w.reach c.log.elv
   within_ends [] w h at = at_most_within w.reach c.log.elv (λ k lt.
       let low : k < length c.log.elv = omega (arith, lt, at.reach.long) in
-      let is : slice_index w.reach k ≡ slice_index c.log.elv k = at.reach.starts k low ∙ ap (λ (o : Option Kept). start_or o (slice_index c.log.elv k)) (h k low) in
+      let is : slice_index w.reach k ≡ slice_index c.log.elv k = at.reach.starts k low ∙ ap (λ (o : Option Kept). start_or o (slice_index c.log.elv k)) (h.1 k low) in
       omega (arith, is))
-  within_ends (x ∷ xs) w (new, step, h) at = by_up (updates x.effect) step (within_ends xs new h (at_step x w new (updates x.effect) step at))
+  within_ends (x ∷ xs) w (new, step, said, h) at = by_up (updates x.effect) step (within_ends xs new h (at_step x w new (updates x.effect) step at))
     where
-      by_up : (b : Bool) → Step (records c) c.report.acks c.log.elv b x.call.number w new → AtMost new.reach c.log.elv → AtMost w.reach c.log.elv
+      by_up : (b : Bool) → Step (records c) c.report.acks c.log.elv (IsFor c x.call.number x.effect.writes) b x.call.number w new → AtMost new.reach c.log.elv → AtMost w.reach c.log.elv
       by_up true g rest = at_most_trans w.reach new.reach c.log.elv (went_rises x w new g at) rest
       by_up false r rest = subst (λ (l : List ℕ). AtMost l c.log.elv) r.0.same.1 rest
 
-  taken : (xs : List (Act Numbered)) (w : Walk) → Walks c w xs → IsAt (records c) c.log.elv w → (y : Act Numbered) → Member y xs → updates y.effect ≡ true →
+  taken : (xs : List (Act Numbered)) (w : Walk) → Walks c w xs stop → IsAt (records c) c.log.elv w → (y : Act Numbered) → Member y xs → updates y.effect ≡ true →
       has_record y.call.number (filter (λ (r : Kept). covers c.log.elv r.place.dep) (records c)) ≡ true
   taken [] w h at y m u = absurd m
-  taken (x ∷ xs) w (new, step, h) at y (inr m) u = taken xs new h (at_step x w new (updates x.effect) step at) y m u
-  taken (x ∷ xs) w (new, step, h) at y (inl e) u = by_up (updates x.effect) (ap (λ (z : Act Numbered). updates z.effect) e ∙ u) step
+  taken (x ∷ xs) w (new, step, said, h) at y (inr m) u = taken xs new h (at_step x w new (updates x.effect) step at) y m u
+  taken (x ∷ xs) w (new, step, said, h) at y (inl e) u = by_up (updates x.effect) (ap (λ (z : Act Numbered). updates z.effect) e ∙ u) step
     where
-      by_up : (b : Bool) → b ≡ true → Step (records c) c.report.acks c.log.elv b x.call.number w new → has_record y.call.number (filter (λ (r : Kept). covers c.log.elv r.place.dep) (records c)) ≡ true
+      by_up : (b : Bool) → b ≡ true → Step (records c) c.report.acks c.log.elv (IsFor c x.call.number x.effect.writes) b x.call.number w new → has_record y.call.number (filter (λ (r : Kept). covers c.log.elv r.place.dep) (records c)) ≡ true
       by_up false t r = absurd (both_ways false refl t)
       by_up true t g =
           let found = head_found (slice_get (records c) (slice_index w.nexts.items new.stream)) new.stream g.lowest.one g.lowest.next in
-          let most = at_most_trans g.lowest.one.place.dep w.reach c.log.elv (covers_at_most w.reach g.lowest.one.place.dep g.lowest.covered) (within_ends (x ∷ xs) w (new, step, h) at) in
+          let most = at_most_trans g.lowest.one.place.dep w.reach c.log.elv (covers_at_most w.reach g.lowest.one.place.dep g.lowest.covered) (within_ends (x ∷ xs) w (new, step, said, h) at) in
           ap (λ (n : ℕ). has_record n (filter (λ (r : Kept). covers c.log.elv r.place.dep) (records c))) (sym (g.named ∙ ap (λ (z : Act Numbered). z.call.number) e))
           ∙ filter_there (λ (r : Kept). covers c.log.elv r.place.dep) (records c) (slice_index w.nexts.items new.stream) g.lowest.one found.0 (at_most_covers c.log.elv g.lowest.one.place.dep most)
 
-  pub followed_is : (w : Walk) → Walks c w (acts c) → IsAt (records c) c.log.elv w → IsFollowed c
+  pub followed_is : (w : Walk) → Walks c w (acts c) stop → IsAt (records c) c.log.elv w → IsFollowed c
   followed_is w h at = record {
     order = ap (map number) (followed (acts c) w h at) ∙ numbers_are c.report.order empty_db;
     whole = λ x m. told (acts c) w h x m;

@@ -2,10 +2,16 @@
 use Rattle.std.specs.Prelude.{ℕ, suc, ◌≡◌, ◌==◌, ◌≤◌, ◌<◌, Bool, true, false, List, [], ◌∷◌, length, Option, Some, None, slice_get, slice_index, slice_set, if◌then◌else◌}
 use Rattle.std.specs.List.{filter}
 use Rattle.tau_base.specs.Vectors.{covers}
-use Rattle.tau_model.specs.History.{Numbered, Act, Member, updates}
+use Rattle.tau_model.specs.History.{Numbered, Act, Member, means, updates}
 use Rattle.tau_scan.specs.Taken.{Kept}
 use Rattle.tau_inspect.specs.declared.walk.Walk.{Walk}
-use Rattle.tau_inspect.specs.Audit.{Case, acts, records, has_ack, has_record, vector_in, due, IsWhole}
+use Rattle.tau_inspect.specs.Audit.{Case, acts, records, has_ack, has_record, vector_in, due, AckAgrees, fate_of, FitsReply, reply_of, IsHome, IsWork, IsWhole}
+use Rattle.tau_inspect.specs.Executed.{call_of, numbered}
+use Rattle.tau_base.specs.Database.{Db, written}
+use Rattle.tau_proc.specs.Effect.{Effect}
+use Rattle.tau_proc.specs.declared.reply.Reply.{Reply}
+use Rattle.tau_base.specs.declared.value.Key.{Key}
+use Rattle.tau_base.specs.declared.value.Value.{Value}
 
 abbrev pub of_stream : ℕ → Option Kept → Option Kept
 of_stream stream None = None
@@ -48,8 +54,9 @@ pub record IsLowest (all : List Kept) (w : Walk) (j : ℕ) : Type 0 where
   pub lower : (k : ℕ) → k < j → head_passes w.reach (next_of all w k) ≡ false
 
 -- the walk passes the record of the call with this number, the next one that is covered
-pub record Goes (all : List Kept) (ends : List ℕ) (number : ℕ) (w new : Walk) : Type 0 where
+pub record Goes (all : List Kept) (ends : List ℕ) (Fits : Kept → Type 0) (number : ℕ) (w new : Walk) : Type 0 where
   pub lowest : IsLowest all w new.stream
+  pub fits : Fits lowest.one
   pub named : lowest.one.number ≡ number
   pub nexts : new.nexts.items ≡ slice_set w.nexts.items new.stream (suc (slice_index w.nexts.items new.stream))
   pub reach : new.reach ≡ slice_set w.reach new.stream (start_or (next_of all new new.stream) (slice_index ends new.stream))
@@ -66,17 +73,45 @@ pub record Reads (dep : List ℕ) (number : ℕ) (w new : Walk) : Type 0 where
   pub last : new.last ≡ number
 
 -- it passes a call that writes, or one that only reads
-abbrev pub Step : List Kept → List (ℕ × List ℕ) → List ℕ → Bool → ℕ → Walk → Walk → Type 0
-Step all acks ends true number w new = Goes all ends number w new
-Step all acks ends false number w new = Reads (vector_in number acks) number w new × (has_ack number acks ≡ true)
+abbrev pub Step : List Kept → List (ℕ × List ℕ) → List ℕ → (Kept → Type 0) → Bool → ℕ → Walk → Walk → Type 0
+Step all acks ends Fits true number w new = Goes all ends Fits number w new
+Step all acks ends Fits false number w new = Reads (vector_in number acks) number w new × (has_ack number acks ≡ true)
 
--- it passes these calls one after another, and no record is left
-abbrev pub Walks : Case → Walk → List (Act Numbered) → Type 0
-Walks c w [] = (k : ℕ) → k < length c.log.elv → next_of (records c) w k ≡ None
-Walks c w (x ∷ xs) = (new : Walk) × Step (records c) c.report.acks c.log.elv (updates x.effect) x.call.number w new × Walks c new xs
+-- a record holds what the call did, in the stream of its worker, and the call's acknowledgement, if it has one, has the record's vector
+pub record IsFor (c : Case) (number : ℕ) (writes : List (Key × Value)) (r : Kept) : Type 0 where
+  pub work : IsWork r.content writes (call_of c.load.calls number)
+  pub home : IsHome c r
+  pub ack : AckAgrees c r
+
+-- the walk passes these calls, each of which replied as it is told, one after another up to this end, and no record is left
+abbrev pub Walks : Case → Walk → List (Act Numbered) → Walk → Type 0
+Walks c w [] end = (end ≡ w) × ((k : ℕ) → k < length c.log.elv → next_of (records c) w k ≡ None)
+Walks c w (x ∷ xs) end = (new : Walk) × Step (records c) c.report.acks c.log.elv (IsFor c x.call.number x.effect.writes) (updates x.effect) x.call.number w new × FitsReply c [] x × Walks c new xs end
+
+-- each record lies before the end in its stream: the first one of the first stream is the first of all, and where one stream ends the next one begins
+pub record IsPassed (count width : ℕ) (first last : List ℕ) : Type 0 where
+  pub wide : 1 ≤ width
+  pub begins : slice_index first 0 ≡ 0
+  pub goes_on : (k : ℕ) → suc k < width → slice_index last k ≡ slice_index first (suc k)
+  pub finishes : (k : ℕ) → suc k ≡ width → slice_index last k ≡ count
 
 -- The order is the reported history, each call has its record or its acknowledgement, and the vectors of all records are covered.
 pub record IsFollowed (c : Case) : Type 0 where
   pub order : due c ≡ c.report.order
   pub whole : IsWhole c
   pub taken : (x : Act Numbered) → Member x (acts c) → updates x.effect ≡ true → has_record x.call.number (filter (λ r. covers c.log.elv r.place.dep) (records c)) ≡ true
+
+-- what a call of the order does on these rows
+abbrev pub effect_on : Case → ℕ → Db → Effect
+effect_on c number db = means c.load.declarations.procs (numbered c.load.calls number) db
+
+-- The call was executed on these rows and left those, it replied as it is told, and the walk passed it.
+pub record IsOneOn (c : Case) (all : List Kept) (acks : List (ℕ × List ℕ)) (number : ℕ) (w new : Walk) (db after : Db) : Type 0 where
+  pub replied : reply_of (fate_of c number) ≡ Some (effect_on c number db).reply
+  pub step : Step all acks c.log.elv (IsFor c number (effect_on c number db).writes) (updates (effect_on c number db)) number w new
+  pub rows : after ≡ written (effect_on c number db).writes db
+
+-- a call with this effect was gone through: what it writes is buffered, and if so it replied as it is told
+pub record HasGone (told : Option Reply) (e : Effect) (buffer : List (Key × Value)) (so : Bool) : Type 0 where
+  pub writes : buffer ≡ e.writes
+  pub replied : so ≡ true → told ≡ Some e.reply

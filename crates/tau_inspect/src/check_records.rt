@@ -40,7 +40,7 @@ fn has_act(case: &LentCase<'_>, done: &AllDone, places: &[usize], one: &Record<'
 }
 
 /// Whether a record stands in the stream of its call's worker.
-fn is_home(case: &LentCase<'_>, one: &Record<'_>) -> bool
+pub fn is_home(case: &LentCase<'_>, one: &Record<'_>) -> bool
     requires { 1 ≤ case.now.workers }
     ensures { IsTrue result ↔ IsHome (in_case case.now) one.now }
 {
@@ -49,7 +49,7 @@ fn is_home(case: &LentCase<'_>, one: &Record<'_>) -> bool
 
 /// Whether an acknowledgement of its call, if there is one, has its vector. `places` has where the numbers of the
 /// acknowledgements stand among them.
-fn ack_agrees(case: &LentCase<'_>, acks: &[Ack<'_>], places: &[usize], one: &Record<'_>) -> bool
+pub fn ack_agrees(case: &LentCase<'_>, acks: &[Ack<'_>], places: &[usize], one: &Record<'_>) -> bool
     requires acks { acks.now ≡ case.now.report.now.acks }
     requires small { one.now.number ≤ length case.now.load.now.calls }
     requires unique { IsUnique (map (λ a. a.0) case.now.report.now.acks) }

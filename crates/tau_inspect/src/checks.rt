@@ -41,7 +41,7 @@ pub fn check_fate(case: &LentCase<'_>, counts: &[usize], acked: &[bool]) -> Opti
 }
 
 /// Whether the call with this number is told to have replied so.
-fn has_replied(fates: &[KeptFate], number: u64, reply: &Reply) -> bool
+pub fn has_replied(fates: &[KeptFate], number: u64, reply: &Reply) -> bool
     ensures { IsTrue result ↔ (reply_of (slice_index_or fates.now (number - 1) Unrun) ≡ Some reply.now) }
 {
     match fates.get(number.saturating_sub(1) as usize) {

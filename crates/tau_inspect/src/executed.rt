@@ -205,7 +205,7 @@ fn go_on(
 }
 
 /// The place in which each call is laid.
-fn blank_call() -> Call {
+pub fn blank_call() -> Call {
     Call {
         proc: 0,
         args: ArrayVec::new(),

@@ -45,11 +45,12 @@ fn digits(text: &[u8]) -> Option<(u64, &[u8])>
     }
     let mut value: u64 = 0;
     for i in 0..18 {
-        let byte = text[i];
-        if byte < b'0' || byte > b'9' {
+        // A byte below that of 0 gives a number far above 9, so one test serves for both.
+        let digit = u64::from(text[i]).wrapping_sub(48);
+        if digit > 9 {
             return spelled(text, i, value);
         }
-        value = value * 10 + u64::from(byte) - 48;
+        value = value * 10 + digit;
     }
     None
 }

@@ -20,7 +20,7 @@ use crate::executed::{AllDone, Executed, execute};
 use crate::records::{Record, records_of};
 use crate::same::same_rows;
 use crate::verdict::{Check, Verdict};
-use crate::walk::is_followed;
+use crate::walk::passes_at_once;
 use std::alloc::Global;
 use tau_base::{Listed, Lv, NoMemory};
 use tau_record::{Entry, Placed};
@@ -180,31 +180,6 @@ fn by_taken(
     }
 }
 
-/// What follows if all records fit. Mostly the order is then followed along them, and so each check passes.
-fn by_following(
-    alloc: Global,
-    case: &LentCase<'_>,
-    done: &AllDone,
-    order_places: &[usize],
-    acks: &[Ack<'_>],
-    ack_places: &[usize],
-    all: &[Record<'_>],
-) -> Result<Verdict, NoMemory>
-    requires is { IsCase (in_case case.now) }
-    requires passed { Pass (in_case case.now) (before Check.Ack) }
-    requires done { done.now ≡ effects (acts (in_case case.now)) }
-    requires placed { HasPlaces (length case.now.load.now.calls) case.now.report.now.order order_places.now }
-    requires acks { acks.now ≡ case.now.report.now.acks }
-    requires acks_placed { HasPlaces (length case.now.load.now.calls) (map (λ a. a.0) case.now.report.now.acks) ack_places.now }
-    requires all { all.now ≡ records (in_case case.now) }
-    ensures { IfOk result (IsVerdict (in_case case.now)) }
-{
-    if is_followed(alloc, case, done, acks, ack_places, all)? {
-        return Ok(Verdict::Yes);
-    }
-    by_taken(alloc, case, done, order_places, acks, ack_places, all)
-}
-
 /// The check of the records, and what follows.
 fn by_records(
     alloc: Global,
@@ -237,7 +212,7 @@ fn by_records(
             check: Check::Record,
             number,
         }),
-        Ok(None) => by_following(
+        Ok(None) => by_taken(
             alloc,
             case,
             done,
@@ -275,8 +250,8 @@ fn by_rows(
     by_records(alloc, case, &all.done, acks, ack_numbers)
 }
 
-/// The check of the replies, and what follows.
-fn by_reply(
+/// The check of the replies, and what follows, one after another.
+fn by_executing(
     alloc: Global,
     case: &LentCase<'_>,
     acks: &[Ack<'_>],
@@ -301,6 +276,26 @@ fn by_reply(
         }),
         None => by_rows(alloc, case, &all, acks, ack_numbers),
     }
+}
+
+/// What follows if the fates fit. Mostly each check passes, and that is found while the order is executed.
+fn by_reply(
+    alloc: Global,
+    case: &LentCase<'_>,
+    acks: &[Ack<'_>],
+    ack_numbers: &[u64],
+) -> Result<Verdict, NoMemory>
+    requires is { IsCase (in_case case.now) }
+    requires passed { Pass (in_case case.now) (before Check.Reply) }
+    requires acks { acks.now ≡ case.now.report.now.acks }
+    requires numbers { ack_numbers.now ≡ map (λ a. a.0) case.now.report.now.acks }
+    ensures { IfOk result (IsVerdict (in_case case.now)) }
+{
+    let ack_places = places(alloc, case.load.calls.len(), ack_numbers)?;
+    if passes_at_once(alloc, case, acks, ack_places.as_slice())? {
+        return Ok(Verdict::Yes);
+    }
+    by_executing(alloc, case, acks, ack_numbers)
 }
 
 /// The check of the fates, and what follows.

@@ -1,5 +1,5 @@
 -- One call more is not missing.
-use Rattle.std.proofs.Common.{arith, ℕ, Bool, ◌≡◌, ◌++◌, ◌∷◌, [], ◌&&◌, not, List, take, length, get_or, sym, ap, ◌∙◌, refl}
+use Rattle.std.proofs.Common.{arith, ℕ, Bool, ◌≡◌, ◌&&◌, not, List, take, get_or, sym, ap, ◌∙◌, refl}
 use Rattle.std.specs.Prelude.{slice_index_or, false}
 use Rattle.std.specs.List.{list_any}
 use Rattle.std.proofs.lemmas.List.{take_more, take_all}

@@ -1,7 +1,7 @@
 -- One digit more.
-use Rattle.std.proofs.Common.{ℕ, List, ◌≡◌, ◌<◌, ◌≤◌, ◌+◌, ◌*◌, ◌-◌, ◌^◌, get_or, length, refl, arith}
+use Rattle.std.proofs.Common.{ℕ, ◌≡◌, ◌<◌, ◌≤◌, ◌+◌, ◌*◌, ◌-◌, ◌^◌, ◌%◌, length, refl, arith}
 use Rattle.tau_text.proofs.Numbers.{below_tens}
-use Rattle.tau_inspect.proofs.OnePass.{no_digits, digit_more, few_more}
+use Rattle.tau_inspect.proofs.OnePass.{digit_more, digit_of, few_more, no_digits}
 use Rattle.tau_inspect.proofs.quick.digits.Goals as goal
 
 pub loop-i-init : goal.loop-i-init
@@ -18,15 +18,15 @@ overflow_mul-value c =
 pub overflow_add-value : goal.overflow_add-value
 overflow_add-value c =
     let lt : c.loop-i.value < 10 ^ 17 = below_tens c.loop-i.value c.loop-i.i 17 c.loop-i.invariant.few (omega (arith, c.loop-i-test.true)) in
-    omega (arith, lt, c.from.ensures, c.if-byte-gt57.false)
+    omega (arith, lt, c.if-digit-gt9.false)
 
 pub loop-i-preserved : goal.loop-i-preserved
 loop-i-preserved c =
-    let text = c.args.text.now in let i : ℕ = c.loop-i.i in let value : ℕ = c.loop-i.value in let b : ℕ = c.from.result in
+    let text = c.args.text.now in let i : ℕ = c.loop-i.i in let value : ℕ = c.loop-i.value in let b : ℕ = c.from-digit.result in
+    let d : ℕ = (b + (2 ^ 64 - 48)) % 2 ^ 64 in
+    let of : (48 ≤ b) × (b ≤ 57) × (d ≡ b - 48) = digit_of b d c.from-digit.type_inv refl (omega (arith, c.if-digit-gt9.false)) in
     let lt : i < length text = omega (arith, c.loop-i-test.true, c.if-text-lt18.false) in
-    let low : 48 ≤ b = omega (arith, c.from.ensures, c.if-byte-lt48.false) in
-    let high : b ≤ 57 = omega (arith, c.from.ensures, c.if-byte-gt57.false) in
     record {
-      few = few_more value i b low high c.loop-i.invariant.few;
-      read = digit_more text i value (value * 10 + b - 48) b lt c.from.ensures low high refl c.loop-i.invariant.read;
+      few = few_more value i d (omega (arith, c.if-digit-gt9.false)) c.loop-i.invariant.few;
+      read = digit_more text i value (value * 10 + d) b lt c.from-digit.ensures of.0 of.1 (omega (arith, of.0, of.2)) c.loop-i.invariant.read;
     }

@@ -1,5 +1,5 @@
 -- The number of the call, and then the one that it replied.
-use Rattle.std.proofs.Common.{ℕ, ℤ, pos, ◌≡◌, ◌<◌, ◌^◌, ◌++◌, ◌∷◌, subst, sym, ap, ◌∙◌, arith}
+use Rattle.std.proofs.Common.{ℕ, ℤ, pos, ◌≡◌, ◌++◌, subst, sym, ap, ◌∙◌, arith}
 use Rattle.std.specs.Fmt.{decimal}
 use Rattle.tau_base.specs.declared.value.Value.TheVariants.{Int}
 use Rattle.tau_proc.specs.declared.reply.Reply.TheVariants as reply

@@ -1,5 +1,5 @@
 -- One digit, or several of which the first is not 0.
-use Rattle.std.proofs.Common.{ℕ, List, ◌≡◌, ◌==◌, ◌-◌, ◌++◌, length, take, drop, false, get_or, subst, arith}
+use Rattle.std.proofs.Common.{ℕ, ◌≡◌, ◌==◌, ◌-◌, ◌++◌, length, take, drop, false, get_or, subst, arith}
 use Rattle.std.specs.Fmt.{decimal}
 use Rattle.std.proofs.lemmas.Grind.{common_steps}
 use Rattle.tau_inspect.proofs.OnePass.{spelled_one, spelled_more}

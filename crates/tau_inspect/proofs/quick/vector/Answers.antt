@@ -5,7 +5,7 @@ use Rattle.std.proofs.Math.ListN.{length-set}
 use Rattle.std.proofs.lemmas.List.Elements.{All-from_get_or}
 use Rattle.tau_base.specs.declared.limits.TheConstants.{MAX_LSN}
 use Rattle.tau_report.specs.Lines.{vector_text}
-use Rattle.tau_inspect.proofs.Cutting.{ReadTo, read_none, next_read}
+use Rattle.tau_inspect.proofs.Cutting.{ReadTo, next_read}
 use Rattle.tau_inspect.proofs.OnePass.{last_more}
 use Rattle.tau_inspect.proofs.quick.vector.Goals as goal
 

@@ -1,5 +1,5 @@
 -- One more call.
-use Rattle.std.proofs.Common.{ℕ, List, ◌+◌, ◌++◌, ◌∷◌, [], ◌≡◌, ◌<◌, ◌≤◌, ◌^◌, length, refl, sym, ap, subst, ◌∙◌, arith, rules}
+use Rattle.std.proofs.Common.{ℕ, List, ◌+◌, ◌∷◌, [], ◌≡◌, ◌<◌, ◌≤◌, ◌^◌, length, refl, sym, ap, subst, ◌∙◌, arith, rules}
 use Rattle.std.proofs.lemmas.List.{length-append}
 use Rattle.tau_report.specs.declared.report.Fate.{Fate}
 use Rattle.tau_inspect.specs.Bodies.{fate_body}

@@ -3,7 +3,7 @@ use Rattle.std.proofs.Common.{ℕ, List, ap, ◌∙◌}
 use Rattle.tau_inspect.specs.Executed.{acts_of, effects}
 use Rattle.tau_inspect.proofs.Staged.{many}
 use Rattle.tau_inspect.specs.Cases.{in_case}
-use Rattle.tau_inspect.proofs.stages.by_reply.Goals as goal
+use Rattle.tau_inspect.proofs.stages.by_executing.Goals as goal
 
 pub check_reply-requires-clause-many : goal.check_reply-requires-clause-many
 check_reply-requires-clause-many c =
