@@ -32,19 +32,43 @@ enum Went {
     Nothing,
 }
 
+/// A step of a procedure.
+#[derive(Clone, Copy)]
+enum Word {
+    /// `get r0 a 1`
+    Gets,
+    /// `put a 2 r0`
+    PutsRegister,
+    /// `put a ROW NUMBER`
+    Puts(i64, i64),
+}
+
+/// Two workers at a shard: who they are, of how many streams, in which mode, the steps of a procedure of the first one, and the
+/// shard's floor, if it has one from the beginning.
+type Seats = (
+    (u8, u8),
+    usize,
+    LogMode,
+    &'static [Word],
+    Option<&'static [u64]>,
+);
+
+/// In words what is shown, the workers, and the rows, each with 0 for the first worker or 1 for the second.
+type Play = (&'static str, Seats, &'static [(u8, Row)]);
+
 /// What is done with a worker's call, and what is then so. A key is its row of the first table.
 #[derive(Clone, Copy)]
-enum Row<'a> {
+enum Row {
     /// A call begins: its number, its procedure, and its arguments, all of them numbers.
-    Begins(u64, u16, &'a [i64]),
+    Begins(u64, u16, &'static [i64]),
     /// Its next actions become these.
-    Goes(&'a [Went]),
+    Goes(&'static [Went]),
     /// So many times it takes its first lock, meets Busy and gives its key back.
     MeetsBusy(usize),
     /// Its record, after the anchor of this number and vector, begins here and has so many bytes.
-    Commits(u32, &'a [u64], u64, usize),
-    /// Its record, after the anchor of this number and vector, begins here and has these bytes.
-    Writes(u32, &'a [u64], u64, &'a [u8]),
+    Commits(u32, &'static [u64], u64, usize),
+    /// Its record, after the anchor of this number and vector, begins here and has these bytes, as hexadecimal digits.
+    Writes(u32, &'static [u64], u64, &'static str),
     /// It is given up.
     GivesUp,
     /// The lock that comes next.
@@ -64,9 +88,19 @@ enum Row<'a> {
     /// What is kept of it has this vector.
     KeptLv([u64; 3]),
     /// Up to this vector so many entries of the shard are dropped.
-    Drops(&'a [u64], usize),
+    Drops(&'static [u64], usize),
     /// The shard's row has this number.
     Finds(i64, i64),
+    /// Another worker reads this row.
+    IsRead(u8, i64),
+    /// The lock that is asked is that of row 1 to read it, and nothing else is asked.
+    LocksToRead,
+    /// The lock that is asked is granted, with this number in the row.
+    ReadsNumber(i64),
+    /// What is asked is to free the key of row 1, which was not written, and nothing else.
+    FreesNext,
+    /// One call is kept once this one is.
+    IsKept,
 }
 
 fn key(row: i64) -> Key {
@@ -120,12 +154,40 @@ fn declare(rt: &impl Abort, alloc: Global, args: u8, steps: Vec<Step>) -> Result
     Ok(procs)
 }
 
-/// The procedures with one of these steps more, without arguments; none where there is no step.
-fn procs_of(rt: &impl Abort, alloc: Global, steps: &[Step]) -> Result<Procs, Fail> {
-    if steps.is_empty() {
+fn step_of(word: Word) -> Step {
+    match word {
+        Word::Gets => Step::Get {
+            into: 0,
+            table: 0,
+            row: Operand::Int(1),
+        },
+        Word::PutsRegister => Step::Put {
+            table: 0,
+            row: Operand::Int(2),
+            value: Operand::Register(0),
+        },
+        Word::Puts(row, number) => Step::Put {
+            table: 0,
+            row: Operand::Int(row),
+            value: Operand::Int(number),
+        },
+    }
+}
+
+fn steps_of(alloc: Global, words: &[Word]) -> Result<Vec<Step>, Fail> {
+    let mut steps = Vec::new(alloc);
+    for word in words {
+        steps.push(step_of(*word))?;
+    }
+    Ok(steps)
+}
+
+/// The procedures with one of these steps more, without arguments; none if there is no step.
+fn procs_of(rt: &impl Abort, alloc: Global, words: &[Word]) -> Result<Procs, Fail> {
+    if words.is_empty() {
         return Ok(Procs::new(alloc));
     }
-    declare(rt, alloc, 0, steps.to_vec(alloc)?)
+    declare(rt, alloc, 0, steps_of(alloc, words)?)
 }
 
 /// The first positions of a vector, zeros beyond its end.
@@ -451,55 +513,53 @@ impl Seat {
 }
 
 /// The seat's next actions are these.
-fn follows(rt: &impl Abort, seat: &mut Seat, shard: &mut Shard, wants: &[Went]) {
+fn follows(rt: &impl Abort, seat: &mut Seat, shard: &mut Shard, name: &str, wants: &[Went]) {
     for want in wants {
         let went = seat.act(rt, shard);
-        assert!(rt; went == *want, "{went:?}");
+        assert!(rt; went == *want, "{name}: {went:?}");
     }
 }
 
-/// The seat's call gets its place: the record after this anchor has so many bytes.
-fn commits(
+/// Gives the seat's call its place: the bytes of its record after this anchor.
+fn placed(
     rt: &impl Abort,
     seat: &mut Seat,
     anchor_number: u32,
     anchor: &[u64],
     start: u64,
-    size: usize,
-) -> Result<(), Fail> {
+) -> Result<Vec<u8>, Fail> {
     let anchor = vector(rt, anchor);
-    let bytes = seat.place(rt, anchor_number, &anchor, start)?;
-    assert_eq!(rt; bytes.len(), size);
-    Ok(())
+    seat.place(rt, anchor_number, &anchor, start)
 }
 
-/// As `commits`, with the bytes of the record.
-fn writes(
-    rt: &impl Abort,
-    seat: &mut Seat,
-    anchor_number: u32,
-    anchor: &[u64],
-    start: u64,
-    record: &[u8],
-) -> Result<(), Fail> {
-    let anchor = vector(rt, anchor);
-    let bytes = seat.place(rt, anchor_number, &anchor, start)?;
-    assert_eq!(rt; bytes.as_slice(), record);
-    Ok(())
+/// Whether bytes are those of these hexadecimal digits, between which there may be spaces.
+fn are_spelled(bytes: &[u8], digits: &str) -> bool {
+    let mut at = 0usize;
+    let mut high: Option<u8> = None;
+    for c in digits.chars() {
+        if let Some(digit) = c.to_digit(16) {
+            let low = digit as u8;
+            match high {
+                None => high = Some(low),
+                Some(first) => {
+                    if bytes.get(at) != Some(&((first << 4) | low)) {
+                        return false;
+                    }
+                    at = at.wrapping_add(1);
+                    high = None;
+                }
+            }
+        }
+    }
+    at == bytes.len() && high.is_none()
 }
 
 /// The call takes its first lock, and then meets Busy and gives its key back, so many times.
-fn meets_busy(rt: &impl Abort, seat: &mut Seat, shard: &mut Shard, times: usize) {
+fn meets_busy(rt: &impl Abort, seat: &mut Seat, shard: &mut Shard, name: &str, times: usize) {
     for _ in 0..times {
         let wants = [Went::Granted, Went::Busy(1), Went::Quit(0, 1)];
-        follows(rt, seat, shard, &wants);
+        follows(rt, seat, shard, name, &wants);
     }
-}
-
-/// The lock that comes next is this one.
-fn locks_next(rt: &impl Abort, seat: &Seat, want: Option<(u64, Key, Mode)>) {
-    let next = seat.next_lock();
-    assert!(rt; next == want, "{next:?}");
 }
 
 /// Something is kept of the call in hand, without the place of a record.
@@ -518,150 +578,133 @@ fn kept_lv(seat: &Seat) -> Option<[u64; 3]> {
     }
 }
 
-/// The seat is as the row says. Only rows that change nothing come here.
-fn stands(rt: &impl Abort, seat: &Seat, row: Row<'_>) {
+/// A call that has its one key, of row 1, and wrote nothing, is asked to free that key, and nothing else.
+fn frees_next(seat: &Seat) -> bool {
+    let Some((freed, _)) = free_lent(&seat.txn) else {
+        return false;
+    };
+    freed == key(1) && seat.txn.written_at(key(1)).is_none() && !seat.txn.is_left_over()
+}
+
+/// A call that has not its one key, of row 1, is asked to lock that key, and nothing else.
+fn locks_to_read(seat: &Seat) -> bool {
+    seat.txn.lock_asked() == Some((key(1), Mode::Read)) && seat.txn.quit_asked().is_none()
+}
+
+/// Whether the seat is as the row says. Only rows that change nothing come here.
+fn is_so(seat: &Seat, row: Row) -> bool {
     match row {
-        Row::NextLock(want) => locks_next(rt, seat, want),
-        Row::Number(number) => assert_eq!(rt; seat.number(), Some(number)),
-        Row::Dep(dep) => assert_eq!(rt; seat.dep(), dep),
-        Row::Lv(lv) => assert_eq!(rt; seat.lv(), lv),
-        Row::Reaches(stream, position) => assert_eq!(rt; seat.position(stream), position),
-        Row::InHand(in_hand) => assert_eq!(rt; seat.in_hand(), in_hand),
-        Row::HoldsKey(holds) => assert_eq!(rt; seat.holds_key(), holds),
-        Row::HasJoined(joined) => assert_eq!(rt; seat.has_joined(), joined),
-        Row::KeptUnplaced => assert!(rt; is_kept_unplaced(seat)),
-        Row::KeptLv(lv) => assert_eq!(rt; kept_lv(seat), Some(lv)),
-        _ => assert!(rt; false),
+        Row::NextLock(want) => seat.next_lock() == want,
+        Row::Number(number) => seat.number() == Some(number),
+        Row::Dep(dep) => seat.dep() == dep,
+        Row::Lv(lv) => seat.lv() == lv,
+        Row::Reaches(stream, position) => seat.position(stream) == position,
+        Row::InHand(in_hand) => seat.in_hand() == in_hand,
+        Row::HoldsKey(holds) => seat.holds_key() == holds,
+        Row::HasJoined(joined) => seat.has_joined() == joined,
+        Row::KeptUnplaced => is_kept_unplaced(seat),
+        Row::KeptLv(lv) => kept_lv(seat) == Some(lv),
+        Row::LocksToRead => locks_to_read(seat),
+        Row::FreesNext => frees_next(seat),
+        _ => false,
     }
 }
 
 /// Up to this vector so many entries of the shard are dropped.
-fn drops(rt: &impl Abort, shard: &mut Shard, upto: &[u64], entries: usize) {
-    assert_eq!(rt; shard.drop_covered(&vector(rt, upto)), entries);
+fn drops(rt: &impl Abort, shard: &mut Shard, upto: &[u64], entries: usize) -> bool {
+    shard.drop_covered(&vector(rt, upto)) == entries
 }
 
 /// The shard's row has this number.
-fn finds(rt: &impl Abort, shard: &Shard, row: i64, number: i64) {
-    let Value::Int(found) = shard.value(key(row)) else {
-        assert!(rt; false);
-        return;
-    };
-    assert_eq!(rt; found, number);
+fn finds(shard: &Shard, row: i64, number: i64) -> bool {
+    shard.value(key(row)) == Value::Int(number)
+}
+
+/// Another worker reads a row.
+fn is_read(rt: &impl Abort, shard: &mut Shard, worker: u8, row: i64) -> bool {
+    assert!(rt; worker < 31);
+    let mut other = Lv::zero(2);
+    shard
+        .lock_key(worker, key(row), Mode::Read, &mut other)
+        .is_ok()
+}
+
+/// One call is kept once that in hand is.
+fn is_kept(alloc: Global, seat: &Seat) -> Result<bool, Fail> {
+    let mut kept = CommittedList::new(alloc);
+    kept.reserve(1)?;
+    seat.txn.commit_into(&mut kept);
+    Ok(kept.len() == 1)
 }
 
 /// Does what the row says, and sees that it is so.
-fn play(rt: &impl Abort, shard: &mut Shard, seat: &mut Seat, row: Row<'_>) -> Result<(), Fail> {
-    match row {
-        Row::Begins(number, proc, args) => seat.begin(rt, number, &numbers_call(proc, args)),
-        Row::Goes(wants) => follows(rt, seat, shard, wants),
-        Row::MeetsBusy(times) => meets_busy(rt, seat, shard, times),
-        Row::Commits(anchor, upto, start, size) => {
-            return commits(rt, seat, anchor, upto, start, size);
-        }
-        Row::Writes(anchor, upto, start, record) => {
-            return writes(rt, seat, anchor, upto, start, record);
-        }
-        Row::GivesUp => seat.give_up(rt),
-        Row::Drops(upto, entries) => drops(rt, shard, upto, entries),
-        Row::Finds(row, number) => finds(rt, shard, row, number),
-        other => stands(rt, seat, other),
-    }
-    Ok(())
-}
-
-/// This worker at a shard of so many streams goes through these rows.
-fn alone(
+fn play(
     rt: &impl Abort,
     alloc: Global,
     shard: &mut Shard,
-    seat: (u8, usize, LogMode),
-    rows: &[Row<'_>],
-) -> Result<(), Fail> {
-    let mut seat = Seat::new(rt, alloc, seat.0, seat.1, seat.2, Procs::new(alloc));
-    goes(rt, shard, &mut seat, rows)
-}
-
-/// A worker's seat at a shard goes through these rows.
-fn goes(rt: &impl Abort, shard: &mut Shard, seat: &mut Seat, rows: &[Row<'_>]) -> Result<(), Fail> {
-    for row in rows {
-        play(rt, shard, seat, *row)?;
+    seat: &mut Seat,
+    name: &str,
+    row: Row,
+) -> Result<bool, Fail> {
+    match row {
+        Row::Begins(number, proc, args) => seat.begin(rt, number, &numbers_call(proc, args)),
+        Row::Goes(wants) => follows(rt, seat, shard, name, wants),
+        Row::MeetsBusy(times) => meets_busy(rt, seat, shard, name, times),
+        Row::Commits(anchor, upto, start, size) => {
+            return Ok(placed(rt, seat, anchor, upto, start)?.len() == size);
+        }
+        Row::Writes(anchor, upto, start, record) => {
+            return Ok(are_spelled(placed(rt, seat, anchor, upto, start)?.as_slice(), record));
+        }
+        Row::GivesUp => seat.give_up(rt),
+        Row::Drops(upto, entries) => return Ok(drops(rt, shard, upto, entries)),
+        Row::Finds(row, number) => return Ok(finds(shard, row, number)),
+        Row::IsRead(worker, row) => return Ok(is_read(rt, shard, worker, row)),
+        Row::ReadsNumber(number) => return Ok(seat.grant_lent(Some(&Value::Int(number)))),
+        Row::IsKept => return is_kept(alloc, seat),
+        other => return Ok(is_so(seat, other)),
     }
-    Ok(())
+    Ok(true)
 }
 
-/// Two workers at a shard of so many streams, of which worker 0 has a procedure of these steps, go through these rows, each through those of its number.
-fn pair(
-    rt: &impl Abort,
-    alloc: Global,
-    n: usize,
-    steps: &[Step],
-    rows: &[(u8, Row<'_>)],
-) -> Result<(), Fail> {
-    let procs = procs_of(rt, alloc, steps)?;
-    let first = Seat::new(rt, alloc, 0, n, LogMode::Values, procs);
-    let second = Seat::new(rt, alloc, 1, n, LogMode::Values, Procs::new(alloc));
-    both_go(rt, alloc, n, first, second, rows)
+/// The shard of so many streams, with this floor if it has one from the beginning.
+fn shard_of(rt: &impl Abort, alloc: Global, n: usize, floor: Option<&[u64]>) -> Shard {
+    assert!(rt; 1 <= n && n <= MAX_STREAMS);
+    match floor {
+        None => Shard::new(alloc, n),
+        Some(positions) => Shard::with_floor(alloc, vector(rt, positions)),
+    }
 }
 
-/// Two seats at a shard of so many streams go through these rows, the first through those of number 0.
+/// Two seats at a shard go through these rows, the first through those of number 0.
 fn both_go(
     rt: &impl Abort,
     alloc: Global,
-    n: usize,
-    mut first: Seat,
-    mut second: Seat,
-    rows: &[(u8, Row<'_>)],
+    shard: &mut Shard,
+    first: &mut Seat,
+    second: &mut Seat,
+    name: &str,
+    rows: &[(u8, Row)],
 ) -> Result<(), Fail> {
-    assert!(rt; 1 <= n);
-    assert!(rt; n <= MAX_STREAMS);
-    let mut shard = Shard::new(alloc, n);
-    for row in rows {
-        match row.0 {
-            0 => play(rt, &mut shard, &mut first, row.1)?,
-            _ => play(rt, &mut shard, &mut second, row.1)?,
-        }
+    for (index, (number, row)) in rows.iter().enumerate() {
+        let went = match *number {
+            0 => play(rt, alloc, shard, first, name, *row)?,
+            _ => play(rt, alloc, shard, second, name, *row)?,
+        };
+        assert!(rt; went, "{name}: row {index}");
     }
     Ok(())
 }
 
-/// These two workers of 32 streams and of format 2 go through these rows, the first through those of number 0.
-fn wide_pair(
-    rt: &impl Abort,
-    alloc: Global,
-    workers: (u8, u8),
-    rows: &[(u8, Row<'_>)],
-) -> Result<(), Fail> {
-    let mode = LogMode::WideValues;
-    let first = Seat::new(rt, alloc, workers.0, 32, mode, Procs::new(alloc));
-    let second = Seat::new(rt, alloc, workers.1, 32, mode, Procs::new(alloc));
-    both_go(rt, alloc, 32, first, second, rows)
-}
-
-/// The step `put a ROW NUMBER`
-fn puts(row: i64, number: i64) -> Step {
-    Step::Put {
-        table: 0,
-        row: Operand::Int(row),
-        value: Operand::Int(number),
-    }
-}
-
-/// The step `get r0 a 1`
-fn gets() -> Step {
-    Step::Get {
-        into: 0,
-        table: 0,
-        row: Operand::Int(1),
-    }
-}
-
-/// The step `put a 2 r0`
-fn puts_register() -> Step {
-    Step::Put {
-        table: 0,
-        row: Operand::Int(2),
-        value: Operand::Register(0),
-    }
+/// The workers go through their rows.
+fn goes(rt: &impl Abort, alloc: Global, played: &Play) -> Result<(), Fail> {
+    let (name, seats, rows) = played;
+    let (workers, n, mode, words, floor) = *seats;
+    let procs = procs_of(rt, alloc, words)?;
+    let mut first = Seat::new(rt, alloc, workers.0, n, mode, procs);
+    let mut second = Seat::new(rt, alloc, workers.1, n, mode, Procs::new(alloc));
+    let mut shard = shard_of(rt, alloc, n, floor);
+    both_go(rt, alloc, &mut shard, &mut first, &mut second, name, rows)
 }
 
 /// The step that writes the first argument to this row.
@@ -682,13 +725,45 @@ fn many_writes(alloc: Global) -> Result<Vec<Step>, Fail> {
     Ok(steps)
 }
 
-#[test]
-fn read_then_written_by_another(rt: HostRuntime) -> Result<(), Fail> {
-    pair(
-        &rt,
-        rt.alloc(),
-        2,
-        &[gets(), puts_register()],
+/// The key of row 1.
+const FIRST_ROW: Key = Key { table: 0, row: 1 };
+
+/// The record of call 1, which puts 5 into row 1.
+const PUT_RECORD: &str =
+    "01 00000028 0000000000000001 00000000 0000 0001 0000 0000000000000001 01 0000000000000005";
+
+/// The same above anchor 1, with an empty mask.
+const PUT_ABOVE_RECORD: &str =
+    "01 00000028 0000000000000001 00000001 0000 0001 0000 0000000000000001 01 0000000000000005";
+
+/// The same as a command record.
+const COMMAND_RECORD: &str =
+    "02 00000031 0000000000000001 00000000 0000 0000 03 01 0000000000000000 01 0000000000000001 01 0000000000000005";
+
+/// All three in format 2.
+const WIDE_RECORD: &str =
+    "01 0000002a 0000000000000001 00000000 00000000 0001 0000 0000000000000001 01 0000000000000005";
+
+const WIDE_ABOVE_RECORD: &str =
+    "01 0000002a 0000000000000001 00000001 00000000 0001 0000 0000000000000001 01 0000000000000005";
+
+const WIDE_COMMAND_RECORD: &str =
+    "02 00000033 0000000000000001 00000000 00000000 0000 03 01 0000000000000000 01 0000000000000001 01 0000000000000005";
+
+/// In format 2, the record of call 2, which puts 7 into row 1 and waits for stream 20 up to 55.
+const AFTER_20_RECORD: &str =
+    "01 00000032 0000000000000002 00000000 00100000 0000000000000037 0001 0000 0000000000000001 01 0000000000000007";
+
+static PLAYS: [Play; 17] = [
+    (
+        "read then written by another",
+        (
+            (0, 1),
+            2,
+            LogMode::Values,
+            &[Word::Gets, Word::PutsRegister],
+            None,
+        ),
         &[
             (0, Row::Begins(1, FIRST_DECLARED, &[])),
             (0, Row::Goes(&[Went::Granted, Went::Granted])),
@@ -709,17 +784,11 @@ fn read_then_written_by_another(rt: HostRuntime) -> Result<(), Fail> {
                 Row::Goes(&[Went::Freed(0, 1), Went::Done(None, [82, 98, 0])]),
             ),
         ],
-    )
-}
-
-/// The later one of two writers meets Busy, begins again at once, and comes after.
-#[test]
-fn busy_names_the_holder(rt: HostRuntime) -> Result<(), Fail> {
-    pair(
-        &rt,
-        rt.alloc(),
-        2,
-        &[],
+    ),
+    // The later one of two writers meets Busy, begins again at once, and comes after.
+    (
+        "busy names the holder",
+        ((0, 1), 2, LogMode::Values, &[], None),
         &[
             (0, Row::Begins(1, PUT, &[0, 1, 5])),
             (1, Row::Begins(2, PUT, &[0, 1, 6])),
@@ -737,17 +806,11 @@ fn busy_names_the_holder(rt: HostRuntime) -> Result<(), Fail> {
                 Row::Goes(&[Went::Freed(0, 1), Went::Done(None, [61, 53, 0])]),
             ),
         ],
-    )
-}
-
-/// A removed entry raises the floor, below which no call of the shard begins.
-#[test]
-fn calls_start_at_the_floor(rt: HostRuntime) -> Result<(), Fail> {
-    pair(
-        &rt,
-        rt.alloc(),
-        2,
-        &[],
+    ),
+    // A removed entry raises the floor, below which no call of the shard begins.
+    (
+        "calls start at the floor",
+        ((0, 1), 2, LogMode::Values, &[], None),
         &[
             (0, Row::Begins(1, PUT, &[0, 1, 5])),
             (0, Row::Goes(&[Went::Granted])),
@@ -765,17 +828,11 @@ fn calls_start_at_the_floor(rt: HostRuntime) -> Result<(), Fail> {
             (1, Row::Goes(&[Went::Granted])),
             (1, Row::Dep([53, 0, 0])),
         ],
-    )
-}
-
-/// Call 3 is in the anchor; call 1 is raised to it and names it; call 2 depends on call 1 and names none.
-#[test]
-fn record_above_an_anchor(rt: HostRuntime) -> Result<(), Fail> {
-    pair(
-        &rt,
-        rt.alloc(),
-        3,
-        &[],
+    ),
+    // Call 3 is in the anchor; call 1 is raised to it and names it; call 2 depends on call 1 and names none.
+    (
+        "record above an anchor",
+        ((0, 1), 3, LogMode::Values, &[], None),
         &[
             (0, Row::Begins(1, PUT, &[0, 1, 5])),
             (0, Row::Goes(&[Went::Granted])),
@@ -792,99 +849,62 @@ fn record_above_an_anchor(rt: HostRuntime) -> Result<(), Fail> {
                 Row::Goes(&[Went::Freed(0, 1), Went::Done(Some(7), [82, 77, 53])]),
             ),
         ],
-    )
-}
-
-/// The record names anchor 1 and has an empty mask.
-#[test]
-fn bytes_above_an_anchor(rt: HostRuntime) -> Result<(), Fail> {
-    let record =
-        b"\x01\0\0\0\x28\0\0\0\0\0\0\0\x01\0\0\0\x01\0\0\0\x01\0\0\0\0\0\0\0\0\0\x01\x01\0\0\0\0\0\0\0\x05";
-    pair(
-        &rt,
-        rt.alloc(),
-        3,
-        &[],
+    ),
+    // The record names anchor 1 and has an empty mask.
+    (
+        "bytes above an anchor",
+        ((0, 1), 3, LogMode::Values, &[], None),
         &[
             (0, Row::Begins(1, PUT, &[0, 1, 5])),
             (0, Row::Goes(&[Went::Granted])),
-            (0, Row::Writes(1, &[13, 13, 53], 42, record.as_slice())),
+            (0, Row::Writes(1, &[13, 13, 53], 42, PUT_ABOVE_RECORD)),
         ],
-    )
-}
-
-#[test]
-fn command_record(rt: HostRuntime) -> Result<(), Fail> {
-    let record =
-        b"\x02\0\0\0\x31\0\0\0\0\0\0\0\x01\0\0\0\0\0\0\0\0\x03\x01\0\0\0\0\0\0\0\0\x01\0\0\0\0\0\0\0\x01\x01\0\0\0\0\0\0\0\x05";
-    let mut shard = Shard::new(rt.alloc(), 1);
-    alone(
-        &rt,
-        rt.alloc(),
-        &mut shard,
-        (0, 1, LogMode::Commands),
+    ),
+    (
+        "command record",
+        ((0, 1), 1, LogMode::Commands, &[], None),
         &[
-            Row::Begins(1, PUT, &[0, 1, 5]),
-            Row::Goes(&[Went::Granted]),
-            Row::Writes(0, &[0], 13, record.as_slice()),
-            Row::Lv([62, 0, 0]),
+            (0, Row::Begins(1, PUT, &[0, 1, 5])),
+            (0, Row::Goes(&[Went::Granted])),
+            (0, Row::Writes(0, &[0], 13, COMMAND_RECORD)),
+            (0, Row::Lv([62, 0, 0])),
         ],
-    )
-}
-
-/// A worker of two streams puts 5 into row 1 in this mode: the bytes of its record, and where it ends.
-fn puts_alone(
-    rt: &impl Abort,
-    alloc: Global,
-    mode: LogMode,
-    record: &[u8],
-    past: u64,
-) -> Result<(), Fail> {
-    let mut shard = Shard::new(alloc, 2);
-    alone(
-        rt,
-        alloc,
-        &mut shard,
-        (0, 2, mode),
+    ),
+    // The mode picks the record: its kind, and whether its mask has 16 bits or 32.
+    (
+        "the mode of values picks the record",
+        ((0, 1), 2, LogMode::Values, &[], None),
         &[
-            Row::Begins(1, PUT, &[0, 1, 5]),
-            Row::Goes(&[Went::Granted]),
-            Row::Writes(0, &[0, 0], 13, record),
-            Row::Lv([past, 0, 0]),
+            (0, Row::Begins(1, PUT, &[0, 1, 5])),
+            (0, Row::Goes(&[Went::Granted])),
+            (0, Row::Writes(0, &[0, 0], 13, PUT_RECORD)),
+            (0, Row::Lv([53, 0, 0])),
         ],
-    )
-}
-
-/// The mode picks the record: its kind, and whether its mask has 16 bits or 32.
-#[test]
-fn records_of_each_mode(rt: HostRuntime) -> Result<(), Fail> {
-    let alloc = rt.alloc();
-    let narrow =
-        b"\x01\0\0\0\x28\0\0\0\0\0\0\0\x01\0\0\0\0\0\0\0\x01\0\0\0\0\0\0\0\0\0\x01\x01\0\0\0\0\0\0\0\x05";
-    let wide =
-        b"\x01\0\0\0\x2a\0\0\0\0\0\0\0\x01\0\0\0\0\0\0\0\0\0\x01\0\0\0\0\0\0\0\0\0\x01\x01\0\0\0\0\0\0\0\x05";
-    let wide_command =
-        b"\x02\0\0\0\x33\0\0\0\0\0\0\0\x01\0\0\0\0\0\0\0\0\0\0\x03\x01\0\0\0\0\0\0\0\0\x01\0\0\0\0\0\0\0\x01\x01\0\0\0\0\0\0\0\x05";
-    puts_alone(&rt, alloc, LogMode::Values, narrow.as_slice(), 53)?;
-    puts_alone(&rt, alloc, LogMode::WideValues, wide.as_slice(), 55)?;
-    puts_alone(
-        &rt,
-        alloc,
-        LogMode::WideCommands,
-        wide_command.as_slice(),
-        64,
-    )
-}
-
-/// Of 32 streams, worker 30 depends on worker 20: its mask has bit 20.
-#[test]
-fn wide_record_with_a_high_bit(rt: HostRuntime) -> Result<(), Fail> {
-    let record =
-        b"\x01\0\0\0\x32\0\0\0\0\0\0\0\x02\0\0\0\0\0\x10\0\0\0\0\0\0\0\0\0\x37\0\x01\0\0\0\0\0\0\0\0\0\x01\x01\0\0\0\0\0\0\0\x07";
-    wide_pair(
-        &rt,
-        rt.alloc(),
-        (20, 30),
+    ),
+    (
+        "the mode of wide values picks the record",
+        ((0, 1), 2, LogMode::WideValues, &[], None),
+        &[
+            (0, Row::Begins(1, PUT, &[0, 1, 5])),
+            (0, Row::Goes(&[Went::Granted])),
+            (0, Row::Writes(0, &[0, 0], 13, WIDE_RECORD)),
+            (0, Row::Lv([55, 0, 0])),
+        ],
+    ),
+    (
+        "the mode of wide commands picks the record",
+        ((0, 1), 2, LogMode::WideCommands, &[], None),
+        &[
+            (0, Row::Begins(1, PUT, &[0, 1, 5])),
+            (0, Row::Goes(&[Went::Granted])),
+            (0, Row::Writes(0, &[0, 0], 13, WIDE_COMMAND_RECORD)),
+            (0, Row::Lv([64, 0, 0])),
+        ],
+    ),
+    // Of 32 streams, worker 30 depends on worker 20: its mask has bit 20.
+    (
+        "wide record with a high bit",
+        ((20, 30), 32, LogMode::WideValues, &[], None),
         &[
             (0, Row::Begins(1, PUT, &[0, 1, 5])),
             (0, Row::Goes(&[Went::Granted])),
@@ -896,97 +916,64 @@ fn wide_record_with_a_high_bit(rt: HostRuntime) -> Result<(), Fail> {
             ),
             (1, Row::Begins(2, ADD, &[0, 1, 2])),
             (1, Row::Goes(&[Went::Granted, Went::Granted])),
-            (1, Row::Writes(0, &[0; 32], 13, record.as_slice())),
+            (1, Row::Writes(0, &[0; 32], 13, AFTER_20_RECORD)),
             (1, Row::Reaches(20, 55)),
             (1, Row::Reaches(30, 63)),
             (1, Row::Reaches(31, 0)),
         ],
-    )
-}
-
-/// Of 32 streams, a record names an anchor of all of them and has an empty mask.
-#[test]
-fn wide_record_above_an_anchor(rt: HostRuntime) -> Result<(), Fail> {
-    let record =
-        b"\x01\0\0\0\x2a\0\0\0\0\0\0\0\x01\0\0\0\x01\0\0\0\0\0\x01\0\0\0\0\0\0\0\0\0\x01\x01\0\0\0\0\0\0\0\x05";
-    wide_pair(
-        &rt,
-        rt.alloc(),
-        (16, 30),
+    ),
+    // Of 32 streams, a record names an anchor of all of them and has an empty mask.
+    (
+        "wide record above an anchor",
+        ((16, 30), 32, LogMode::WideValues, &[], None),
         &[
             (0, Row::Begins(1, PUT, &[0, 1, 5])),
             (0, Row::Goes(&[Went::Granted])),
-            (0, Row::Writes(1, &[13; 32], 274, record.as_slice())),
+            (0, Row::Writes(1, &[13; 32], 274, WIDE_ABOVE_RECORD)),
             (0, Row::Lv([13, 13, 13])),
             (0, Row::Reaches(16, 316)),
             (0, Row::Reaches(31, 13)),
         ],
-    )
-}
-
-/// The first action of the call is to lock row 1 to write it.
-fn locks_first(rt: &impl Abort, procs: &Procs, call: &Call) {
-    assert!(rt; procs.takes(call));
-    let write = Some((key(1), Mode::Write));
-    assert_eq!(rt; Txn::first_lock(procs, call), write);
-}
-
-/// The first action of `put a 1 5` is to lock row 1 to write it.
-fn put_locks_first(rt: &impl Abort, alloc: Global) {
-    locks_first(rt, &Procs::new(alloc), &numbers_call(PUT, &[0, 1, 5]));
-}
-
-#[test]
-fn locks_that_come_next(rt: HostRuntime) -> Result<(), Fail> {
-    put_locks_first(&rt, rt.alloc());
-    pair(
-        &rt,
-        rt.alloc(),
-        1,
-        &[],
+    ),
+    (
+        "locks that come next",
+        ((0, 1), 1, LogMode::Values, &[], None),
         &[
             (0, Row::NextLock(None)),
             (0, Row::Begins(7, PUT, &[0, 1, 5])),
-            (0, Row::NextLock(Some((7, key(1), Mode::Write)))),
+            (0, Row::NextLock(Some((7, FIRST_ROW, Mode::Write)))),
         ],
-    )
-}
-
-/// A read-only call joins the committed ones as it begins to free its keys.
-#[test]
-fn read_only_call(rt: HostRuntime) -> Result<(), Fail> {
-    let mut shard = Shard::with_floor(rt.alloc(), vector(&rt, &[53, 0]));
-    alone(
-        &rt,
-        rt.alloc(),
-        &mut shard,
-        (1, 2, LogMode::Values),
+    ),
+    // A read-only call joins the committed ones as it begins to free its keys.
+    (
+        "read only call",
+        ((1, 2), 2, LogMode::Values, &[], Some(&[53, 0])),
         &[
-            Row::Begins(2, GET, &[0, 1]),
-            Row::Goes(&[Went::Granted]),
-            Row::HasJoined(false),
-            Row::KeptUnplaced,
-            Row::Goes(&[Went::Freed(0, 1)]),
-            Row::HasJoined(true),
-            Row::KeptLv([53, 0, 0]),
-            Row::Goes(&[Went::Done(None, [53, 0, 0]), Went::Nothing]),
+            (0, Row::Begins(2, GET, &[0, 1])),
+            (0, Row::Goes(&[Went::Granted])),
+            (0, Row::HasJoined(false)),
+            (0, Row::KeptUnplaced),
+            (0, Row::Goes(&[Went::Freed(0, 1)])),
+            (0, Row::HasJoined(true)),
+            (0, Row::KeptLv([53, 0, 0])),
+            (0, Row::Goes(&[Went::Done(None, [53, 0, 0]), Went::Nothing])),
         ],
-    )
-}
-
-/// A key that was read and then written is raised to write mode, and freed once.
-#[test]
-fn key_read_and_then_written(rt: HostRuntime) -> Result<(), Fail> {
-    pair(
-        &rt,
-        rt.alloc(),
-        1,
-        &[gets(), puts(1, 3), puts_register()],
+    ),
+    // A key that was read and then written is raised to write mode, and freed once.
+    (
+        "key read and then written",
+        (
+            (0, 1),
+            1,
+            LogMode::Values,
+            &[Word::Gets, Word::Puts(1, 3), Word::PutsRegister],
+            None,
+        ),
         &[
             (0, Row::Begins(1, FIRST_DECLARED, &[])),
-            (0, Row::NextLock(Some((1, key(1), Mode::Read)))),
+            (0, Row::NextLock(Some((1, FIRST_ROW, Mode::Read)))),
             (0, Row::Goes(&[Went::Granted])),
-            (0, Row::NextLock(Some((1, key(1), Mode::Write)))),
+            (0, Row::NextLock(Some((1, FIRST_ROW, Mode::Write)))),
             (0, Row::Goes(&[Went::Granted, Went::Granted])),
             (0, Row::Commits(0, &[0], 13, 51)),
             (
@@ -999,17 +986,17 @@ fn key_read_and_then_written(rt: HostRuntime) -> Result<(), Fail> {
             ),
             (0, Row::Finds(1, 3)),
         ],
-    )
-}
-
-/// A call that is given up only gives its keys back, and then it is in hand no more.
-#[test]
-fn given_up(rt: HostRuntime) -> Result<(), Fail> {
-    pair(
-        &rt,
-        rt.alloc(),
-        1,
-        &[puts(1, 3), puts(2, 4)],
+    ),
+    // A call that is given up only gives its keys back, and then it is in hand no more.
+    (
+        "given up",
+        (
+            (0, 1),
+            1,
+            LogMode::Values,
+            &[Word::Puts(1, 3), Word::Puts(2, 4)],
+            None,
+        ),
         &[
             (0, Row::Begins(1, FIRST_DECLARED, &[])),
             (
@@ -1027,35 +1014,59 @@ fn given_up(rt: HostRuntime) -> Result<(), Fail> {
             (0, Row::GivesUp),
             (0, Row::InHand(false)),
         ],
-    )
-}
-
-/// Another worker reads row 2.
-fn reads_the_second_row(rt: &impl Abort, shard: &mut Shard) {
-    let mut other = Lv::zero(2);
-    assert!(rt; shard.lock_key(1, key(2), Mode::Read, &mut other).is_ok());
-}
-
-/// After the 64th Busy the call gives its keys back and is left over.
-#[test]
-fn left_over_after_the_last_try(rt: HostRuntime) -> Result<(), Fail> {
-    let mut shard = Shard::new(rt.alloc(), 2);
-    reads_the_second_row(&rt, &mut shard);
-    let procs = procs_of(&rt, rt.alloc(), &[puts(1, 3), puts(2, 4)])?;
-    let mut seat = Seat::new(&rt, rt.alloc(), 0, 2, LogMode::Values, procs);
-    goes(
-        &rt,
-        &mut shard,
-        &mut seat,
+    ),
+    // After the 64th Busy the call gives its keys back and is left over. Another worker reads row 2.
+    (
+        "left over after the last try",
+        (
+            (0, 1),
+            2,
+            LogMode::Values,
+            &[Word::Puts(1, 3), Word::Puts(2, 4)],
+            None,
+        ),
         &[
-            Row::Begins(1, FIRST_DECLARED, &[]),
-            Row::MeetsBusy(63),
-            Row::NextLock(Some((1, key(1), Mode::Write))),
-            Row::MeetsBusy(1),
-            Row::Number(1),
-            Row::Goes(&[Went::LeftOver, Went::Nothing]),
+            (0, Row::IsRead(1, 2)),
+            (0, Row::Begins(1, FIRST_DECLARED, &[])),
+            (0, Row::MeetsBusy(63)),
+            (0, Row::NextLock(Some((1, FIRST_ROW, Mode::Write)))),
+            (0, Row::MeetsBusy(1)),
+            (0, Row::Number(1)),
+            (0, Row::Goes(&[Went::LeftOver, Went::Nothing])),
         ],
-    )
+    ),
+    // What is asked of a call that reads a row, one thing at a time.
+    (
+        "one thing is asked at a time",
+        ((0, 1), 1, LogMode::Values, &[], None),
+        &[
+            (0, Row::Begins(2, GET, &[0, 1])),
+            (0, Row::LocksToRead),
+            (0, Row::ReadsNumber(4)),
+            (0, Row::FreesNext),
+            (0, Row::IsKept),
+        ],
+    ),
+];
+
+#[test]
+fn calls_go_as_worked(rt: HostRuntime) -> Result<(), Fail> {
+    for played in &PLAYS {
+        goes(&rt, rt.alloc(), played)?;
+    }
+    Ok(())
+}
+
+/// The first action of the call is to lock row 1 to write it.
+fn locks_first(rt: &impl Abort, procs: &Procs, call: &Call) {
+    assert!(rt; procs.takes(call));
+    assert!(rt; Txn::first_lock(procs, call) == Some((key(1), Mode::Write)));
+}
+
+/// The first action of `put a 1 5` is to lock row 1 to write it.
+#[test]
+fn the_lock_that_comes_first(rt: HostRuntime) {
+    locks_first(&rt, &Procs::new(rt.alloc()), &numbers_call(PUT, &[0, 1, 5]));
 }
 
 /// A call whose one argument is a text of 64 bytes.
@@ -1066,70 +1077,33 @@ fn text_call() -> Result<Call, Fail> {
     Ok(call_of(FIRST_DECLARED, &[Value::Text(text)]))
 }
 
-/// The longest record: 64 texts of 64 bytes, and 16 positions.
+/// The record of a call that writes a text of 64 bytes to 64 rows, each of which it depends on by this vector, above no anchor.
+fn long_record(
+    rt: &impl Abort,
+    alloc: Global,
+    mode: LogMode,
+    full: &[u64],
+    none: &[u64],
+) -> Result<Vec<u8>, Fail> {
+    let procs = declare(rt, alloc, 1, many_writes(alloc)?)?;
+    let mut seat = Seat::new(rt, alloc, 3, full.len(), mode, procs);
+    seat.begin(rt, 1, &text_call()?);
+    seat.grant(rt, &vector(rt, full), 64);
+    placed(rt, &mut seat, 0, none, 13)
+}
+
+/// The mode, as many positions as there are streams, none of them, and how long the longest record is: 64 texts of 64 bytes, and
+/// 16 positions, or 32 in format 2.
+static LONGEST: [(LogMode, &[u64], &[u64], usize); 2] = [
+    (LogMode::Values, &[7; 16], &[0; 16], 5077),
+    (LogMode::WideValues, &[7; 32], &[0; 32], 5207),
+];
+
 #[test]
-fn longest_record(rt: HostRuntime) -> Result<(), Fail> {
-    let alloc = rt.alloc();
-    let procs = declare(&rt, alloc, 1, many_writes(alloc)?)?;
-    let mut seat = Seat::new(&rt, alloc, 3, 16, LogMode::Values, procs);
-    seat.begin(&rt, 1, &text_call()?);
-    let full = vector(&rt, &[7, 7, 7, 7, 7, 7, 7, 7, 7, 7, 7, 7, 7, 7, 7, 7]);
-    seat.grant(&rt, &full, 64);
-    let none = [0, 0, 0, 0, 0, 0, 0, 0, 0, 0, 0, 0, 0, 0, 0, 0];
-    commits(&rt, &mut seat, 0, &none, 13, 5077)
-}
-
-/// The longest record of format 2: 64 texts of 64 bytes, and 32 positions.
-#[test]
-fn longest_wide_record(rt: HostRuntime) -> Result<(), Fail> {
-    let alloc = rt.alloc();
-    let procs = declare(&rt, alloc, 1, many_writes(alloc)?)?;
-    let mut seat = Seat::new(&rt, alloc, 3, 32, LogMode::WideValues, procs);
-    seat.begin(&rt, 1, &text_call()?);
-    seat.grant(&rt, &vector(&rt, &[7; 32]), 64);
-    commits(&rt, &mut seat, 0, &[0; 32], 13, 5207)
-}
-
-/// A call that has its one key, of row 1, and wrote nothing, is asked to free that key, and nothing else.
-fn frees_next(rt: &impl Abort, seat: &Seat) {
-    assert_eq!(rt; free_lent(&seat.txn).map(|freed| freed.0), Some(key(1)));
-    assert!(rt; seat.txn.written_at(key(1)).is_none());
-    assert!(rt; !seat.txn.is_left_over());
-}
-
-/// A call that has not its one key, of row 1, is asked to lock that key, and nothing else.
-fn locks_to_read(rt: &impl Abort, seat: &Seat) {
-    assert_eq!(rt; seat.txn.lock_asked(), Some((key(1), Mode::Read)));
-    assert!(rt; seat.txn.quit_asked().is_none());
-}
-
-/// The call `get a 1` begins.
-fn begins_to_read(rt: &impl Abort, seat: &mut Seat) {
-    seat.begin(rt, 2, &numbers_call(GET, &[0, 1]));
-}
-
-/// The lock that is asked is granted, with the number 4.
-fn reads_number(rt: &impl Abort, seat: &mut Seat) {
-    assert!(rt; seat.grant_lent(Some(&Value::Int(4))));
-}
-
-/// One call is kept once that in hand is.
-fn is_kept(rt: &impl Abort, alloc: Global, seat: &Seat) -> Result<(), Fail> {
-    let mut kept = CommittedList::new(alloc);
-    kept.reserve(1)?;
-    seat.txn.commit_into(&mut kept);
-    assert_eq!(rt; kept.len(), 1);
+fn longest_records(rt: HostRuntime) -> Result<(), Fail> {
+    for (mode, full, none, size) in &LONGEST {
+        let record = long_record(&rt, rt.alloc(), *mode, full, none)?;
+        assert!(rt; record.len() == *size);
+    }
     Ok(())
-}
-
-/// What is asked of a call that reads a row, one thing at a time.
-#[test]
-fn one_thing_is_asked_at_a_time(rt: HostRuntime) -> Result<(), Fail> {
-    let alloc = rt.alloc();
-    let mut seat = Seat::new(&rt, alloc, 0, 1, LogMode::Values, Procs::new(alloc));
-    begins_to_read(&rt, &mut seat);
-    locks_to_read(&rt, &seat);
-    reads_number(&rt, &mut seat);
-    frees_next(&rt, &seat);
-    is_kept(&rt, alloc, &seat)
 }
