@@ -26,7 +26,7 @@ use Rattle.tau_follow.proofs.Fed.{feeds_one}
 use Rattle.tau_follow.proofs.ReadingOn.{same_marks, same_catalogue, read_calls}
 use Rattle.tau_follow.proofs.Redoing.{take_front}
 use Rattle.tau_follow.proofs.Spots.{spots_long}
-use Rattle.tau_follow.specs.Holding.{HasApplied}
+use Rattle.tau_follow.specs.Holding.{HasApplied, IsTold}
 use Rattle.tau_follow.specs.Waits.{AreKept}
 use Rattle.std.specs.Global.{Vec}
 
@@ -63,10 +63,11 @@ reads_on j count old streams now readers by low high l counted same =
     set_at : List (List Placed) → List Placed → List (List Placed)
     set_at xs qs = Rattle.std.proofs.Common.set xs j qs
 
-pub stands_kept : (s : Followed) (a b : Applier) → Stands s a → b.stages.items ≡ a.stages.items → (ArePassed a.stages.items a.firsts.items → ArePassed a.stages.items b.firsts.items) → b.order ≡ a.order → (AreKept s.streams a.stages.items a.waits → AreKept s.streams a.stages.items b.waits) → Stands s b
-stands_kept s a b h stages passed order keeps = record {
+pub stands_kept : (s : Followed) (a b : Applier) → Stands s a → b.stages.items ≡ a.stages.items → (ArePassed a.stages.items a.firsts.items → ArePassed a.stages.items b.firsts.items) → b.order ≡ a.order → (AreKept s.streams a.stages.items a.waits → AreKept s.streams a.stages.items b.waits) → (IsTold s.streams a → IsTold s.streams b) → Stands s b
+stands_kept s a b h stages passed order keeps tells = record {
   staged = record { stages_are = stages ∙ h.staged.stages_are; passed = subst (λ (l : List (List Stage)). ArePassed l b.firsts.items) (sym stages) (passed h.staged.passed); kept = subst (λ (l : List (List Stage)). AreKept s.streams l b.waits) (sym stages) (keeps h.staged.kept) };
   spots = subst (λ v. AreSpots s.streams v.items s.order) (sym order) h.spots;
+  told = tells h.told;
 }
 
 pub at_calls : (f : Format) (n : ℕ) (fed : List (List ℕ)) (s : Followed) (p : Piece) (w v : State) (j count : ℕ) → HasRead f n fed s p w → IsReadOn j count s.streams w.streams.items → AreCallsAt j count w.streams.items → IsSame w v → HasRedone (with_read s w.streams.items) v →
@@ -97,7 +98,7 @@ at_calls f n fed s p w v j count h on calls same redone =
           known = same.known ∙ k.known ∙ ap (with_marks []) (sym (ap marks_from t_streams ∙ same_marks f n fed s p streams h.follower h.read.fronts j count on calls));
           declarations = declared;
         };
-        stands = record { staged = done.holds.staged; spots = done.holds.spots };
+        stands = record { staged = done.holds.staged; spots = done.holds.spots; told = subst (λ (l : List (List Placed)). IsTold l v.applier) done.holds.streams_are redone.told };
         redone = subst (λ (d : Declarations). IsRedone d.procs t v.done (database v.store) v.tables) declared redone.redone;
       },
     )

@@ -168,6 +168,23 @@ module _ (streams : List (List Placed)) (s : Followed) (a b : Applier) (reached 
         same refl spot.stream spot.index x.ready (st ∙ ap (λ (l : List (List Stage)). set_stage l spot.stream spot.index stages.Applied) same) (order ∙ ap (λ (v : Vec Spot). v.items ++ spot ∷ []) x.order)
         (λ k. subst (λ (w : Waits). AreFound streams a.stages.items (w.looked.items ++ spot ∷ []) w.queues.items) (sym waits) x.found)
 
+-- ---- what it says of how far the streams were followed is another
+
+module _ (streams : List (List Placed)) (s : Followed) (a b : Applier) (st : b.stages ≡ a.stages) (firsts : b.firsts ≡ a.firsts) (order : b.order ≡ a.order) (waits : b.waits ≡ a.waits) where
+  as_holds : (t : Followed) → Holds streams t a → Holds streams t b
+  as_holds t h = other_firsts streams t a h b (ap (λ (v : Vec (List Stage)). v.items) st) (ap (λ (v : Vec Spot). v.items) order)
+      (subst (λ (v : Vec ℕ). ArePassed a.stages.items v.items) (sym firsts) h.staged.passed) (subst (λ (w : Waits). AreKept streams a.stages.items w) (sym waits) (kept_is streams t a h))
+
+  pub as_applied : HasApplied streams s a → HasApplied streams s b
+  as_applied d = record { news = d.news; now = d.now; applies = d.applies; holds = as_holds d.now d.holds }
+
+  pub as_followed : HasFollowed streams s a → HasFollowed streams s b
+  as_followed g = (let d = g.done in record { done = record { news = d.news; now = d.now; applies = d.applies; holds = as_holds d.now d.holds }; through = g.through })
+
+-- what waits is known, if it is not lost
+pub found_of : (streams : List (List Placed)) (s : Followed) (a : Applier) → HasApplied streams s a → a.waits.lost ≡ false → AreFound streams a.stages.items a.waits.looked.items a.waits.queues.items
+found_of streams s a d still = elim (kept_is streams d.now a d.holds) [ inl lost ↦ absurd (let z = sym lost ∙ still in cc z) | inr found ↦ found ]
+
 -- ---- once it is looked how far the streams are followed
 
 module _ (streams : List (List Placed)) (s : Followed) (a b : Applier) (first second : List (List Stage)) (list re : List ℕ) (d : HasApplied streams s a)

@@ -97,16 +97,33 @@ reaches_put (qs ∷ streams) [] j ps ss e = refl
 reaches_put (qs ∷ streams) (s ∷ stages) zero ps ss e = (let same : qs ≡ ps = cc in ap (λ (l : List Placed). reach_by (read_to l) l ss ∷ reaches streams stages) same)
 reaches_put (qs ∷ streams) (s ∷ stages) (suc j) ps ss e = ap (λ (l : List ℕ). reach_by (read_to qs) qs s ∷ l) (reaches_put streams stages j ps ss e)
 
-set_there : (xs : List (List Stage)) (j : ℕ) (x y : List Stage) → slice_get (set xs j x) j ≡ Some y → set xs j y ≡ set xs j x
+set_there : {A : Type 0} (xs : List A) (j : ℕ) (x y : A) → slice_get (set xs j x) j ≡ Some y → set xs j y ≡ set xs j x
 set_there [] j x y e = refl
-set_there (z ∷ xs) zero x y e = (let same : x ≡ y = cc in ap (λ (l : List Stage). l ∷ xs) (sym same))
-set_there (z ∷ xs) (suc j) x y e = ap (λ (l : List (List Stage)). z ∷ l) (set_there xs j x y e)
+set_there (z ∷ xs) zero x y e = (let same : x ≡ y = cc in ap (λ l. l ∷ xs) (sym same))
+set_there (z ∷ xs) (suc j) x y e = ap (λ l. z ∷ l) (set_there xs j x y e)
 
 pub reaches_renewed : (streams : List (List Placed)) (before now : List (List Stage)) (reached : List ℕ) (j at : ℕ) (ps : List Placed) (ss here : List Stage) → now ≡ set before j ss → reached ≡ reaches streams before → slice_get streams j ≡ Some ps → slice_get now j ≡ Some here →
     at ≡ reach_by (read_to ps) ps here → set reached j at ≡ reaches streams now
 reaches_renewed streams before now reached j at ps ss here now_is is e g at_is =
     let there : slice_get (set before j ss) j ≡ Some here = ap (λ (l : List (List Stage)). slice_get l j) (sym now_is) ∙ g in
     ap (set reached j) at_is ∙ ap (λ (l : List ℕ). set l j (reach_by (read_to ps) ps here)) is ∙ sym (reaches_put streams before j ps here e) ∙ ap (reaches streams) (set_there before j ss here there ∙ sym now_is)
+
+-- of one stream other records are read, and they stand otherwise
+reaches_both : (streams : List (List Placed)) (stages : List (List Stage)) (j : ℕ) (ps : List Placed) (ss : List Stage) → reaches (set streams j ps) (set stages j ss) ≡ set (reaches streams stages) j (reach_by (read_to ps) ps ss)
+reaches_both [] stages j ps ss = refl
+reaches_both (qs ∷ streams) [] zero ps ss = refl
+reaches_both (qs ∷ streams) [] (suc j) ps ss = refl
+reaches_both (qs ∷ streams) (s ∷ stages) zero ps ss = refl
+reaches_both (qs ∷ streams) (s ∷ stages) (suc j) ps ss = ap (λ (l : List ℕ). reach_by (read_to qs) qs s ∷ l) (reaches_both streams stages j ps ss)
+
+pub reaches_renewed_on : (old streams : List (List Placed)) (before now : List (List Stage)) (reached : List ℕ) (j at : ℕ) (qs ps : List Placed) (ss here : List Stage) → streams ≡ set old j qs → now ≡ set before j ss → reached ≡ reaches old before →
+    slice_get streams j ≡ Some ps → slice_get now j ≡ Some here → at ≡ reach_by (read_to ps) ps here → set reached j at ≡ reaches streams now
+reaches_renewed_on old streams before now reached j at qs ps ss here streams_are now_is is e g at_is =
+    let read : slice_get (set old j qs) j ≡ Some ps = ap (λ (l : List (List Placed)). slice_get l j) (sym streams_are) ∙ e in
+    let there : slice_get (set before j ss) j ≡ Some here = ap (λ (l : List (List Stage)). slice_get l j) (sym now_is) ∙ g in
+    ap (set reached j) at_is ∙ ap (λ (l : List ℕ). set l j (reach_by (read_to ps) ps here)) is ∙ sym (reaches_both old before j ps here)
+    ∙ ap (λ (l : List (List Placed)). reaches l (set before j here)) (set_there old j qs ps read ∙ sym streams_are)
+    ∙ ap (reaches streams) (set_there before j ss here there ∙ sym now_is)
 
 -- ---- one record after others
 

@@ -1,5 +1,5 @@
 -- A stream is read on by records of calls, and anchors, and goes back.
-use Rattle.std.proofs.Common.{ℕ, zero, suc, ◌+◌, ◌≤◌, ◌<◌, true, false, ◌≡◌, inl, List, [], ◌∷◌, ◌++◌, length, take, drop, set, Option, None, Some, Ok, refl, sym, ap, subst, ◌∙◌, arith}
+use Rattle.std.proofs.Common.{ℕ, zero, suc, ◌+◌, ◌≤◌, ◌<◌, true, false, ◌≡◌, inl, inr, List, [], ◌∷◌, ◌++◌, length, take, drop, set, Option, None, Some, Ok, refl, sym, ap, subst, ◌∙◌, arith}
 use Rattle.std.specs.Prelude.{slice_get}
 use Rattle.std.proofs.Math.Seq.{take-append_seam}
 use Rattle.tau_base.proofs.Lists.{get_set_same}
@@ -21,9 +21,11 @@ use Rattle.tau_follow.specs.declared.stage.Stage.{Stage}
 use Rattle.tau_follow.specs.Applying.{stages_in, stages_from, first_stages, extended_from, AreSpots, AreZero, is_call}
 use Rattle.tau_follow.specs.Judging.{judged_in, judged_from, with_judged}
 use Rattle.tau_follow.specs.Feeding.{IsReadOn, AreCallsAt}
-use Rattle.tau_follow.specs.Holding.{HasApplied, HasReadOn}
+use Rattle.tau_follow.specs.Holding.{HasApplied, HasReadOn, WasTold}
 use Rattle.tau_follow.specs.State.{Stands}
-use Rattle.tau_follow.specs.Waits.{AreKept}
+use Rattle.tau_follow.specs.Waits.{AreKept, AreAllAbove}
+use Rattle.std.specs.Global.{Vec}
+use Rattle.tau_follow.specs.Queue.{Wait}
 use Rattle.tau_follow.proofs.Calls.{marks_are, catalogue_is, epochs_are, last_is, left_same, all_read_on}
 use Rattle.tau_follow.proofs.Checked.{all_good}
 use Rattle.tau_follow.proofs.Extending.{extend_all, stages_long}
@@ -117,6 +119,25 @@ module _ (f : Format) (n : ℕ) (fed : List (List ℕ)) (s : Followed) (p : Piec
         (kept_on s.streams a.stages.items j on.before on.news r.stood (judged_in known k (drop (length r.stood) records) (first_stages (drop (length r.stood) records))) (length records) a.waits b.waits on.there r.there long
         r.more r.looked (judged_within known k (length r.stood) records r.within) stands.staged.kept))
 
+    -- how far all other streams were followed is known, if it was
+    pub told_on : WasTold j streams b
+    told_on = elim stands.told [
+      | inl unknown ↦ inl (r.known_same ∙ unknown)
+      | inr told ↦ elim told [
+        | inl lost ↦ inr (inl (r.more.lost ∙ lost))
+        | inr to ↦ inr (inr (record {
+          old = s.streams;
+          before = a.stages.items;
+          records = on.before ++ on.news;
+          stood = with_judged known k records r.stood;
+          streams_are = on.streams_are;
+          stages_are = r.stages_are;
+          reached_is = ap (λ (v : Vec ℕ). v.items) r.reached_same ∙ to.reached_is;
+          above = subst (λ (v : Vec ℕ). AreAllAbove v.items b.waits.queues.items) (sym r.reached_same) (subst (λ (v : Vec (List Wait)). AreAllAbove a.reached.items v.items) (sym r.more.queues) to.above);
+        }))
+      ]
+    ]
+
     -- the records stand, and nothing more is applied yet
     pub begun_on : HasApplied streams (with_read s streams) b
     begun_on = record {
@@ -140,6 +161,7 @@ module _ (f : Format) (n : ℕ) (fed : List (List ℕ)) (s : Followed) (p : Piec
       undone_on = record {
         staged = record { stages_are = stages_back ∙ stands.staged.stages_are; passed = none_passed e.stages.items e.firsts.items zeros; kept = inl lost };
         spots = subst (λ (l : List Spot). AreSpots s.streams l s.order) (sym spots) stands.spots;
+        told = inr (inl lost);
       }
         where
           now_is : stages_from (s.out ++ left_out streams) s.order 0 streams ≡ set a.stages.items j (with_judged known k records r.stood)

@@ -1,5 +1,5 @@
 -- What an applier has applied.
-use Rattle.std.specs.Prelude.{ℕ, ◌≡◌, ◌≤◌, ◌<◌, ◌++◌, ◌∷◌, [], true, List, length, Ok, Some, slice_get, slice_set}
+use Rattle.std.specs.Prelude.{ℕ, ◌≡◌, ◌≤◌, ◌<◌, ◌⊎◌, ◌++◌, ◌∷◌, [], true, false, List, length, Ok, Some, slice_get, slice_set}
 use Rattle.std.specs.List.{Contains}
 use Rattle.tau_base.specs.declared.format.Format.{Format}
 use Rattle.tau_record.specs.declared.entry.Placed.{Placed}
@@ -52,12 +52,38 @@ pub record HasReadOn (known : List Mark) (k : ℕ) (records : List Placed) (j : 
   pub passed : ArePassed old.stages.items old.firsts.items → ArePassed new.stages.items new.firsts.items
   pub more : IsMore old.waits new.waits
   pub looked : (i : ℕ) → length stood ≤ i → i < length records → Contains new.waits.looked.items (spot_at j i)
+  pub reached_same : new.reached ≡ old.reached
+  pub known_same : new.known ≡ old.known
 
 -- these are how far the streams are followed, and each open record is one to look at, or waits for more than that
 pub record IsKnown (streams : List (List Placed)) (a : Applier) (reached : List ℕ) : Type 0 where
   pub reached_is : reached ≡ reaches streams a.stages.items
   pub found : AreFound streams a.stages.items a.waits.looked.items a.waits.queues.items
   pub above : AreAllAbove reached a.waits.queues.items
+
+-- so far the streams were followed, and what waits in queues waits for more than that
+pub record IsFollowedTo (streams : List (List Placed)) (a : Applier) : Type 0 where
+  pub reached_is : a.reached.items ≡ reaches streams a.stages.items
+  pub above : AreAllAbove a.reached.items a.waits.queues.items
+
+-- it is so if the applier says so
+abbrev pub IsTold : List (List Placed) → Applier → Type 0
+IsTold streams a = (a.known ≡ false) ⊎ ((a.waits.lost ≡ true) ⊎ IsFollowedTo streams a)
+
+-- it was so before one stream was read on
+pub record WasFollowedTo (j : ℕ) (streams : List (List Placed)) (a : Applier) : Type 0 where
+  pub old : List (List Placed)
+  pub before : List (List Stage)
+  pub records : List Placed
+  pub stood : List Stage
+  pub streams_are : streams ≡ slice_set old j records
+  pub stages_are : a.stages.items ≡ slice_set before j stood
+  pub reached_is : a.reached.items ≡ reaches old before
+  pub above : AreAllAbove a.reached.items a.waits.queues.items
+
+-- it was so before one stream was read on if the applier says so
+abbrev pub WasTold : ℕ → List (List Placed) → Applier → Type 0
+WasTold j streams a = (a.known ≡ false) ⊎ ((a.waits.lost ≡ true) ⊎ WasFollowedTo j streams a)
 
 -- the same but for one record, which is ready, where these are applied
 pub record IsReadyAt (streams : List (List Placed)) (s : Followed) (a : Applier) (reached : List ℕ) (spot : Spot) : Type 0 where

@@ -16,12 +16,13 @@ use Rattle.tau_follow.specs.declared.applier.Applier.{Applier}
 use Rattle.tau_follow.specs.declared.state.State.{State}
 use Rattle.tau_follow.specs.Applying.{AreSpots, redone_of}
 use Rattle.tau_follow.specs.Feeding.{AreRead}
-use Rattle.tau_follow.specs.Holding.{AreStaged, HasFollowed}
+use Rattle.tau_follow.specs.Holding.{AreStaged, HasFollowed, IsTold}
 
 -- where its records stand, and which are applied
 pub record Stands (s : Followed) (a : Applier) : Type 0 where
   pub staged : AreStaged s a.stages.items a.firsts.items a.waits
   pub spots : AreSpots s.streams a.order.items s.order
+  pub told : IsTold s.streams a
 
 -- each of these numbers is a byte
 abbrev pub AreBytes : List (List ℕ) → Type 0
@@ -72,6 +73,7 @@ pub record IsSame (old new : State) : Type 0 where
 pub record HasRedone (s : Followed) (w : State) : Type 0 where
   pub followed : HasFollowed w.streams.items s w.applier
   pub redone : IsRedone w.declarations.procs followed.done.now w.done (database w.store) w.tables
+  pub told : IsTold w.streams.items w.applier
 
 -- it is one that was fed some bytes
 abbrev pub IsFed : State → Type 0

@@ -6,7 +6,7 @@ ghost use Rattle.tau_follow.specs.declared.stage.Stage.{Stage as OneStage};
 ghost use Rattle.tau_follow.specs.declared.stage.Stage.TheVariants.{Applied, Open};
 ghost use Rattle.tau_follow.specs.declared.spot.Spot.{Spot as OneSpot};
 ghost use Rattle.tau_follow.specs.Applying.{set_stage, open_all, reaches, stages_from, ArePassed, IsWithin, AreZero};
-ghost use Rattle.tau_follow.specs.Holding.{HasApplied, HasFollowed, HasReadOn, IsKnown, IsReadyAt};
+ghost use Rattle.tau_follow.specs.Holding.{HasApplied, HasFollowed, HasReadOn, IsKnown, IsReadyAt, IsTold, WasFollowedTo, WasTold};
 ghost use Rattle.tau_follow.specs.Waits.{AreAllAbove, AreFound, AreKept};
 ghost use Rattle.tau_follow.specs.Judging.{with_judged};
 ghost use Rattle.tau_follow.specs.Reading.{BeginsWith};
@@ -17,6 +17,7 @@ use crate::spot::Spot;
 use crate::stage::{Stage, Stages};
 use crate::waits::Waits;
 use std::alloc::Global;
+use std::mem;
 use tau_base::{Listed, NoMemory};
 use tau_epoch::Epochs;
 use tau_record::Placed;
@@ -32,6 +33,10 @@ pub struct Applier {
     pub order: Vec<Spot>,
     /// What the open records wait for.
     pub waits: Waits,
+    /// How far each stream was followed when nothing was ready any more.
+    pub reached: Vec<u64>,
+    /// Whether that is known, but for a stream that was read on since.
+    pub known: bool,
 }
 
 /// Has the record at a spot stand so.
@@ -120,8 +125,11 @@ impl Applier {
         ensures stages { OnErr result (self.new.stages.items ≡ self.old.stages.items) }
         ensures passed { OnErr result (ArePassed self.old.stages.items self.old.firsts.items → ArePassed self.old.stages.items self.new.firsts.items) }
         ensures order { self.new.order ≡ self.old.order }
+        ensures unknown { OnErr result (self.new.known ≡ false) }
         ensures kept { (streams : List (List OnePlaced)) → AreKept streams self.old.stages.items self.old.waits → OnErr result (AreKept streams self.old.stages.items self.new.waits) }
     {
+        let was_known = self.known;
+        self.known = false;
         let many = self.stand_count(stream);
         // The new records come after those that are passed.
         match lower(&mut self.firsts, stream, many) {
@@ -136,7 +144,10 @@ impl Applier {
             Err(e) => return Err(e),
         }
         match stand_on(known, number, records, &mut self.stages[stream]) {
-            Ok(()) => Ok(()),
+            Ok(()) => {
+                self.known = was_known;
+                Ok(())
+            }
             Err(e) => Err(e),
         }
     }
@@ -172,6 +183,9 @@ impl Applier {
     ) -> Result<(), NoMemory>
         ensures applied { (s : Followed) → HasApplied streams.now s self.old → HasApplied streams.now s self.new }
         ensures known { (s : Followed) (before : List (List OneStage)) (ss : List OneStage) → HasApplied streams.now s self.old → self.old.stages.items ≡ slice_set before j ss → reached.old.items ≡ reaches streams.now before →
+            AreFound streams.now self.old.stages.items self.old.waits.looked.items self.old.waits.queues.items → AreAllAbove reached.old.items self.old.waits.queues.items → OnOk result (IsKnown streams.now self.new reached.new.items) }
+        // Other records of the stream were read, too.
+        ensures known_on { (s : Followed) (old : List (List OnePlaced)) (before : List (List OneStage)) (ps : List OnePlaced) (ss : List OneStage) → HasApplied streams.now s self.old → streams.now ≡ slice_set old j ps → self.old.stages.items ≡ slice_set before j ss → reached.old.items ≡ reaches old before →
             AreFound streams.now self.old.stages.items self.old.waits.looked.items self.old.waits.queues.items → AreAllAbove reached.old.items self.old.waits.queues.items → OnOk result (IsKnown streams.now self.new reached.new.items) }
         ensures stages { self.new.stages ≡ self.old.stages }
         ensures order { self.new.order ≡ self.old.order }
@@ -228,6 +242,7 @@ impl Applier {
         ensures applied { (s : Followed) → HasApplied streams.now s self.old → IsKnown streams.now self.old reached.old.items → HasApplied streams.now s self.new }
         ensures known { (s : Followed) → HasApplied streams.now s self.old → IsKnown streams.now self.old reached.old.items → IfOk result (λ found. IfSome found (λ _. IsKnown streams.now self.new reached.new.items)) }
         ensures through { (s : Followed) → HasApplied streams.now s self.old → IsKnown streams.now self.old reached.old.items → IfOk result (λ found. IsNone found → HasFollowed streams.now s self.new) }
+        ensures still { (s : Followed) → HasApplied streams.now s self.old → IsKnown streams.now self.old reached.old.items → IfOk result (λ found. IsNone found → (reached.new.items ≡ reaches streams.now self.new.stages.items) × AreAllAbove reached.new.items self.new.waits.queues.items) }
         ensures fewer { IfOk result (λ found. IfSome found (λ _. open_all self.new.stages.items < open_all self.old.stages.items)) }
         ensures order { BeginsWith self.old.order.items self.new.order.items }
     {
@@ -255,6 +270,7 @@ impl Applier {
     ) -> Result<(), NoMemory>
         ensures ok { (s : Followed) → HasApplied streams.now s self.old → IsKnown streams.now self.old reached.old.items → OnOk result (HasFollowed streams.now s self.new) }
         ensures applied { (s : Followed) → HasApplied streams.now s self.old → IsKnown streams.now self.old reached.old.items → HasApplied streams.now s self.new }
+        ensures known { (s : Followed) → HasApplied streams.now s self.old → IsKnown streams.now self.old reached.old.items → OnOk result ((reached.new.items ≡ reaches streams.now self.new.stages.items) × AreAllAbove reached.new.items self.new.waits.queues.items) }
         ensures order { BeginsWith self.old.order.items self.new.order.items }
     {
         'steps: loop {
@@ -266,26 +282,95 @@ impl Applier {
         }
     }
 
-    /// Looks how far the streams are followed, and applies what is ready until nothing is.
-    pub fn follow(&mut self, alloc: Global, streams: &[Listed<Placed>]) -> Result<(), NoMemory>
-        ensures ok { (s : Followed) → HasApplied streams.now s self.old → OnOk result (HasFollowed streams.now s self.new) }
-        ensures applied { (s : Followed) → HasApplied streams.now s self.old → HasApplied streams.now s self.new }
-        ensures order { BeginsWith self.old.order.items self.new.order.items }
+    /// Looks how far the streams are followed, all of them, and what is to be looked at then.
+    fn reach_all(&mut self, alloc: Global, streams: &[Listed<Placed>]) -> Result<Vec<u64>, NoMemory>
+        ensures known { (s : Followed) → HasApplied streams.now s self.old → IfOk result (λ reached. HasApplied streams.now s self.new × IsKnown streams.now self.new reached.items) }
+        ensures err { (s : Followed) → HasApplied streams.now s self.old → OnErr result (HasApplied streams.now s self.new) }
+        ensures order { self.new.order ≡ self.old.order }
     {
-        let Ok(mut reached) = reaches(alloc, streams, self.stages.as_slice(), &mut self.firsts)
-        else {
+        let Ok(reached) = reaches(alloc, streams, self.stages.as_slice(), &mut self.firsts) else {
             return Err(NoMemory);
         };
         match self
             .waits
             .know(alloc, self.stages.as_slice(), reached.as_slice())
         {
-            Ok(()) => {}
-            Err(e) => return Err(e),
-        }
-        match self.follow_known(streams, &mut reached) {
-            Ok(()) => Ok(()),
+            Ok(()) => Ok(reached),
             Err(e) => Err(e),
+        }
+    }
+
+    /// The same, if it is known of all streams but one.
+    fn reach_one(
+        &mut self,
+        alloc: Global,
+        streams: &[Listed<Placed>],
+        stream: usize,
+    ) -> Result<Vec<u64>, NoMemory>
+        ensures known { (s : Followed) → HasApplied streams.now s self.old → WasFollowedTo stream streams.now self.old → self.old.waits.lost ≡ false → IfOk result (λ reached. HasApplied streams.now s self.new × IsKnown streams.now self.new reached.items) }
+        ensures err { (s : Followed) → HasApplied streams.now s self.old → OnErr result (HasApplied streams.now s self.new) }
+        ensures order { self.new.order ≡ self.old.order }
+    {
+        let mut reached = mem::replace(&mut self.reached, Vec::new(alloc));
+        match self.pass(streams, &mut reached, stream) {
+            Ok(()) => Ok(reached),
+            Err(e) => Err(e),
+        }
+    }
+
+    /// Whether it is known how far the streams were followed.
+    fn is_known(&self) -> bool
+        ensures { result ≡ true → (self.now.known ≡ true) × (self.now.waits.lost ≡ false) }
+    {
+        if self.waits.lost {
+            return false;
+        }
+        self.known
+    }
+
+    /// Looks how far the streams are followed, if this one alone was read on, and what is to be looked at then.
+    fn reach(
+        &mut self,
+        alloc: Global,
+        streams: &[Listed<Placed>],
+        stream: usize,
+    ) -> Result<Vec<u64>, NoMemory>
+        ensures known { (s : Followed) → HasApplied streams.now s self.old → WasTold stream streams.now self.old → IfOk result (λ reached. HasApplied streams.now s self.new × IsKnown streams.now self.new reached.items) }
+        ensures err { (s : Followed) → HasApplied streams.now s self.old → OnErr result (HasApplied streams.now s self.new) }
+        ensures order { self.new.order ≡ self.old.order }
+    {
+        if self.is_known() {
+            return self.reach_one(alloc, streams, stream);
+        }
+        self.reach_all(alloc, streams)
+    }
+
+    /// Looks how far the streams are followed, if this one alone was read on, and applies what is ready until nothing is.
+    pub fn follow(
+        &mut self,
+        alloc: Global,
+        streams: &[Listed<Placed>],
+        stream: usize,
+    ) -> Result<(), NoMemory>
+        ensures ok { (s : Followed) → HasApplied streams.now s self.old → WasTold stream streams.now self.old → OnOk result (HasFollowed streams.now s self.new) }
+        ensures applied { (s : Followed) → HasApplied streams.now s self.old → WasTold stream streams.now self.old → HasApplied streams.now s self.new }
+        ensures told { (s : Followed) → HasApplied streams.now s self.old → WasTold stream streams.now self.old → IsTold streams.now self.new }
+        ensures order { BeginsWith self.old.order.items self.new.order.items }
+    {
+        let Ok(mut reached) = self.reach(alloc, streams, stream) else {
+            self.known = false;
+            return Err(NoMemory);
+        };
+        match self.follow_known(streams, &mut reached) {
+            Ok(()) => {
+                self.reached = reached;
+                self.known = true;
+                Ok(())
+            }
+            Err(e) => {
+                self.known = false;
+                Err(e)
+            }
         }
     }
 

@@ -8,7 +8,7 @@ ghost use Rattle.tau_follow_laws.specs.Feeding.{Piece, with_piece};
 ghost use Rattle.tau_follow.specs.Reading.{IsShortBy};
 ghost use Rattle.tau_follow.specs.Applying.{is_call, ArePassed};
 ghost use Rattle.tau_follow.specs.Feeding.{AreRead, AreLonger, IsMarkAt, AreCalls, AreCallsAt};
-ghost use Rattle.tau_follow.specs.Holding.{HasReadOn};
+ghost use Rattle.tau_follow.specs.Holding.{HasReadOn, IsTold};
 ghost use Rattle.tau_follow.specs.Waits.{AreKept};
 ghost use Rattle.tau_record.specs.declared.entry.Placed.{Placed as OnePlaced};
 ghost use Rattle.tau_follow.specs.declared.reader.Reader.{Reader as OneReader};
@@ -106,9 +106,9 @@ pub fn wait_stream(readers: &mut Vec<Reader>, stream: u8, bytes: &[u8]) -> Resul
     }
 }
 
-/// How the stream is that is to be fed.
+/// How the stream is that is to be fed. The bytes that wait come into this room.
 pub fn mark_stream(
-    alloc: Global,
+    room: Vec<u8>,
     readers: &[Reader],
     streams: &[Listed<Placed>],
     stream: u8,
@@ -121,7 +121,7 @@ pub fn mark_stream(
     let Some(records) = streams.get(stream as usize) else {
         return Err(NoMemory);
     };
-    reader.mark(alloc, records)
+    reader.mark(room, records)
 }
 
 /// Has the stream that was fed as it was.
@@ -209,6 +209,7 @@ pub fn read_calls(
     ensures stages { OnErr result (applier.new.stages.items ≡ applier.old.stages.items) }
     ensures passed { OnErr result (ArePassed applier.old.stages.items applier.old.firsts.items → ArePassed applier.old.stages.items applier.new.firsts.items) }
     ensures order { applier.new.order ≡ applier.old.order }
+    ensures told { (all : List (List OnePlaced)) → IsTold all applier.old → OnErr result (IsTold all applier.new) }
     ensures kept { (all : List (List OnePlaced)) → AreKept all applier.old.stages.items applier.old.waits → OnErr result (AreKept all applier.old.stages.items applier.new.waits) }
 {
     let Some(reader) = readers.get(stream) else {

@@ -117,6 +117,8 @@ pub fn renew_reach(
     j: usize,
 ) -> Result<u64, NoMemory>
     ensures reached { (before : List (List OneStage)) (ss : List OneStage) → ArePassed stages.now firsts.old.items → stages.now ≡ slice_set before j ss → reached.old.items ≡ reaches streams.now before → OnOk result (reached.new.items ≡ reaches streams.now stages.now) }
+    // Of this stream other records were read, too.
+    ensures reached_on { (old : List (List Placed)) (before : List (List OneStage)) (ps : List Placed) (ss : List OneStage) → ArePassed stages.now firsts.old.items → streams.now ≡ slice_set old j ps → stages.now ≡ slice_set before j ss → reached.old.items ≡ reaches old before → OnOk result (reached.new.items ≡ reaches streams.now stages.now) }
     ensures at { IfOk result (λ at. (reached.new.items ≡ slice_set reached.old.items j at) × (j < length reached.old.items)) }
     ensures passed { ArePassed stages.now firsts.old.items → ArePassed stages.now firsts.new.items }
 {

@@ -49,6 +49,14 @@ pub struct Mark {
     records: usize,
 }
 
+impl Mark {
+    /// The room of the bytes.
+    pub fn into_room(self) -> Vec<u8> {
+        let Mark { rest, .. } = self;
+        rest
+    }
+}
+
 /// A record, and how many bytes it takes.
 #[derive(Drop)]
 struct Next {
@@ -208,6 +216,18 @@ fn extend(rest: &mut Vec<u8>, bytes: &[u8]) -> Result<(), NoMemory>
     }
     match rest.extend_from_slice(bytes) {
         Ok(()) => Ok(()),
+        Err(_) => Err(NoMemory),
+    }
+}
+
+/// Room that is emptied, with these bytes in it.
+fn refilled(room: Vec<u8>, bytes: &[u8]) -> Result<Vec<u8>, NoMemory>
+    ensures { IfOk result (λ rest. rest.items ≡ bytes.now) }
+{
+    let mut rest = room;
+    rest.clear();
+    match rest.extend_from_slice(bytes) {
+        Ok(()) => Ok(rest),
         Err(_) => Err(NoMemory),
     }
 }
@@ -540,11 +560,11 @@ impl Reader {
         false
     }
 
-    /// How the reader is, with these records read.
-    pub fn mark(&self, alloc: Global, records: &Listed<Placed>) -> Result<Mark, NoMemory>
+    /// How the reader is, with these records read. The bytes that wait come into this room.
+    pub fn mark(&self, room: Vec<u8>, records: &Listed<Placed>) -> Result<Mark, NoMemory>
         ensures { IfOk result (λ mark. IsMark self.now records.now mark) }
     {
-        let rest = Vec::from_slice(alloc, self.rest.as_slice())?;
+        let rest = refilled(room, self.rest.as_slice())?;
         Ok(Mark {
             rest,
             at: self.at,

@@ -16,7 +16,7 @@ ghost use Rattle.tau_follow.specs.declared.reader.Reader.{Reader as OneReader};
 ghost use Rattle.tau_scan.specs.Epochs.{marks_from, with_marks};
 ghost use Rattle.tau_follow.specs.Applying.{stages_from, redone_of, AreSpots};
 ghost use Rattle.tau_follow.specs.Feeding.{AreRead, AreLonger, IsMarkAt, IsReadOn, AreCallsAt};
-ghost use Rattle.tau_follow.specs.Holding.{HasApplied, HasFollowed};
+ghost use Rattle.tau_follow.specs.Holding.{HasApplied, HasFollowed, IsTold, WasTold};
 ghost use Rattle.tau_follow.specs.Reading.{BeginsWith, IsShortBy};
 ghost use Rattle.tau_follow.specs.State.{IsAt, Stands, HasRead, HasRedone, IsSame};
 
@@ -34,6 +34,7 @@ use crate::spot::Spot;
 use crate::stage::{Stages, copied, extend_all};
 use crate::waits::Waits;
 use std::alloc::Global;
+use std::mem;
 use tau_base::{Format, Listed, MAX_STREAMS, NoMemory};
 use tau_epoch::Epochs;
 use tau_model::{SerialStore, Tables};
@@ -58,6 +59,8 @@ pub struct State {
     pub tables: Tables,
     /// Room for what the records of a feed write.
     noted: Writes,
+    /// Room for the bytes that wait, as they were before a feed.
+    room: Vec<u8>,
 }
 
 /// So many zeros.
@@ -85,7 +88,7 @@ fn follow_on(
     stages: Vec<Stages>,
     order: &[Spot],
 ) -> Result<Applier, NoMemory>
-    ensures { (format : Format) (fed : List (List ℕ)) (s : Followed) → fronts_of format fed ≡ Ok streams.now → streams.now ≡ s.streams → stages.items ≡ stages_from s.out s.order 0 s.streams → AreSpots s.streams order.now s.order → IfOk result (λ next. HasFollowed streams.now s next) }
+    ensures { (format : Format) (fed : List (List ℕ)) (s : Followed) → fronts_of format fed ≡ Ok streams.now → streams.now ≡ s.streams → stages.items ≡ stages_from s.out s.order 0 s.streams → AreSpots s.streams order.now s.order → IfOk result (λ next. HasFollowed streams.now s next × IsTold streams.now next) }
 {
     let firsts = zeros(alloc, streams.len())?;
     let order = Vec::from_slice(alloc, order)?;
@@ -94,8 +97,10 @@ fn follow_on(
         firsts,
         order,
         waits: Waits::new(alloc),
+        reached: Vec::new(alloc),
+        known: false,
     };
-    match next.follow(alloc, streams) {
+    match next.follow(alloc, streams, 0) {
         Ok(()) => Ok(next),
         Err(e) => Err(e),
     }
@@ -167,6 +172,8 @@ impl State {
                 firsts,
                 order: Vec::new(alloc),
                 waits: Waits::new(alloc),
+                reached: Vec::new(alloc),
+                known: false,
             },
             known: Epochs::new(alloc),
             declarations: none_declared(alloc),
@@ -174,6 +181,7 @@ impl State {
             done: 0,
             tables,
             noted: Vec::new(alloc),
+            room: Vec::new(alloc),
         })
     }
 
@@ -222,15 +230,15 @@ impl State {
     }
 
     /// Applies what is ready until nothing is, and redoes it.
-    fn redo_new(&mut self, alloc: Global) -> Result<(), NoMemory>
-        ensures ok { (s : Followed) → HasApplied self.old.streams.items s self.old.applier → self.old.done ≤ length s.order → database self.old.store ≡ redone_of self.old.declarations.procs (take self.old.done s.order) → IsTablesOf (redone_of self.old.declarations.procs s.order) self.old.tables → OnOk result (HasRedone s self.new) }
-        ensures applied { (s : Followed) → HasApplied self.old.streams.items s self.old.applier → HasApplied self.old.streams.items s self.new.applier }
+    fn redo_new(&mut self, alloc: Global, stream: usize) -> Result<(), NoMemory>
+        ensures ok { (s : Followed) → HasApplied self.old.streams.items s self.old.applier → WasTold stream self.old.streams.items self.old.applier → self.old.done ≤ length s.order → database self.old.store ≡ redone_of self.old.declarations.procs (take self.old.done s.order) → IsTablesOf (redone_of self.old.declarations.procs s.order) self.old.tables → OnOk result (HasRedone s self.new) }
+        ensures applied { (s : Followed) → HasApplied self.old.streams.items s self.old.applier → WasTold stream self.old.streams.items self.old.applier → HasApplied self.old.streams.items s self.new.applier }
         ensures order { BeginsWith self.old.applier.order.items self.new.applier.order.items }
         ensures same { IsSame self.old self.new }
         ensures tables { OnErr result (self.new.tables ≡ self.old.tables) }
     {
         let stood = is_same(self.done, self.applier.order.len());
-        match self.applier.follow(alloc, self.streams.as_slice()) {
+        match self.applier.follow(alloc, self.streams.as_slice(), stream) {
             Ok(()) => {}
             Err(e) => return Err(e),
         }
@@ -280,7 +288,7 @@ impl State {
             Ok(()) => {}
             Err(e) => return Err(e),
         }
-        match self.redo_new(alloc) {
+        match self.redo_new(alloc, stream) {
             Ok(()) => Ok(()),
             Err(e) => {
                 self.applier.undo(stream, stood, count);
@@ -401,8 +409,9 @@ impl State {
         ensures no_memory { (fed : List (List ℕ)) (s : Followed) → IsAt format n fed s self.old → result ≡ Err refusals.NoMemory → IsAt format n fed s self.new }
         ensures tables { OnErr result (self.new.tables ≡ self.old.tables) }
     {
+        let room = mem::replace(&mut self.room, Vec::new(alloc));
         let Ok(mark) = mark_stream(
-            alloc,
+            room,
             self.readers.as_slice(),
             self.streams.as_slice(),
             stream,
@@ -428,7 +437,10 @@ impl State {
         }
         let after = read_count(self.streams.as_slice(), stream);
         match self.follow_new(alloc, stream as usize, before, is_more(before, after)) {
-            Ok(()) => Ok(()),
+            Ok(()) => {
+                self.room = mark.into_room();
+                Ok(())
+            }
             Err(LogRefusal::NoMemory) => {
                 self.undo(alloc, stream, mark);
                 Err(LogRefusal::NoMemory)

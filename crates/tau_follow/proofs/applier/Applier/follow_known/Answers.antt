@@ -23,3 +23,6 @@ returns-in-Ok-None-clause-order c = begins_then _ _ _ c.steps.invariant.1 c.in-O
 
 pub returns-in-Err-clause-order : goal.returns-in-Err-clause-order
 returns-in-Err-clause-order c = begins_then _ _ _ c.steps.invariant.1 c.in-Err.ensures.order
+
+pub returns-in-Ok-None-clause-known : goal.returns-in-Ok-None-clause-known
+returns-in-Ok-None-clause-known c = λ s d k. (let w = c.steps.invariant.0 s d k in c.in-Ok-None.ensures.still s w.0 w.1 (ap is_some c.in-Ok-None.field-0-is))

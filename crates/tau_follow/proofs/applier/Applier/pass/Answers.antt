@@ -28,3 +28,16 @@ returns-in-Ok-pass-clause-known c = λ s before ss d is was found above.
       found = c.in-Ok-pass.ensures.found c.args.streams.now c.args.self.now.stages.items found;
       above = c.in-Ok-pass.ensures.above c.args.reached.now.items c.renew_reach.new.reached.items above (that_is c.args.reached.now.items c.renew_reach.new.reached.items c.args.j c.in-Ok.at at.0 at.1) (others_stay c.args.reached.now.items c.renew_reach.new.reached.items c.args.j c.in-Ok.at at.0);
     })
+
+pub returns-in-Ok-pass-clause-known_on : goal.returns-in-Ok-pass-clause-known_on
+returns-in-Ok-pass-clause-known_on c = λ s old before ps ss d read is was found above.
+    (let lent = c.as_slice.ensures.value in
+    let holds = d.holds in
+    let staged = holds.staged in
+    let passed : ArePassed c.as_slice.result.now c.args.self.now.firsts.items = subst (λ (l : List (List Stage)). ArePassed l c.args.self.now.firsts.items) (sym lent) staged.passed in
+    let at = c.in-Ok.ensures.at in
+    record {
+      reached_is = c.in-Ok.ensures.reached_on old before ps ss passed read (lent ∙ is) was ∙ ap (reaches c.args.streams.now) lent;
+      found = c.in-Ok-pass.ensures.found c.args.streams.now c.args.self.now.stages.items found;
+      above = c.in-Ok-pass.ensures.above c.args.reached.now.items c.renew_reach.new.reached.items above (that_is c.args.reached.now.items c.renew_reach.new.reached.items c.args.j c.in-Ok.at at.0 at.1) (others_stay c.args.reached.now.items c.renew_reach.new.reached.items c.args.j c.in-Ok.at at.0);
+    })

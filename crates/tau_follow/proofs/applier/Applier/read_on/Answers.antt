@@ -1,5 +1,5 @@
 -- The new records stand after those that stood.
-use Rattle.std.proofs.Common.{ap, subst, sym, ℕ, List, set, drop, length, arith}
+use Rattle.std.proofs.Common.{ap, refl, subst, sym, ℕ, List, set, drop, length, arith}
 use Rattle.tau_follow.specs.declared.stage.Stage.{Stage}
 use Rattle.tau_follow.specs.Applying.{ArePassed, first_stages}
 use Rattle.tau_follow.specs.Judging.{judged_in, with_judged}
@@ -21,6 +21,8 @@ returns-in-Ok-stand_on-clause-ok c =
           (subst (λ (l : List ℕ). ArePassed (set c.args.self.now.stages.items c.args.stream (with_judged c.args.known.now c.args.number c.args.records.now c.index_mut.result.now)) l) (sym c.in-Ok.ensures.ok) (passed_on c.args.self.now.stages.items c.args.self.now.firsts.items c.args.stream c.stand_count-many.result c.index_mut.result.now (judged_in c.args.known.now c.args.number (drop (length c.index_mut.result.now) c.args.records.now) (first_stages (drop (length c.index_mut.result.now) c.args.records.now))) there (c.stand_count-many.ensures c.index_mut.result.now there) passed));
       more = c.look_on.ensures.more;
       looked = λ i le lt. (let many = c.stand_count-many.ensures c.index_mut.result.now there in c.in-Ok-look_on.ensures.added i (omega (arith, le, many)) (omega (arith, lt)));
+      reached_same = refl;
+      known_same = refl;
     })
 
 pub returns-in-Err-look_on-clause-kept : goal.returns-in-Err-look_on-clause-kept

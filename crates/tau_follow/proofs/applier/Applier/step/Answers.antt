@@ -26,6 +26,15 @@ returns-in-Ok-None-clause-through c = λ s d k none.
     step_through c.args.streams.now s c.args.self.now _ c.args.self.now.stages.items second c.args.reached.now.items re d refl (λ p. k.reached_is) (λ p. p) lent c.as_slice-2.ensures.value refl refl
     (λ z. c.in-Ok-None.ensures.none found above (ap is_some c.in-Ok-None.field-0-is)))
 
+pub returns-in-Ok-None-clause-still : goal.returns-in-Ok-None-clause-still
+returns-in-Ok-None-clause-still c = λ s d k none.
+    (let found = subst (λ (l : List (List Stage)). AreFound c.args.streams.now l c.args.self.now.waits.looked.items c.args.self.now.waits.queues.items) (sym c.as_slice.ensures.value) k.found in
+    let above = subst (λ (l : List ℕ). AreAllAbove l c.args.self.now.waits.queues.items) (sym c.as_slice-2.ensures.value) k.above in
+    let w = c.in-Ok-None.ensures.none found above (ap is_some c.in-Ok-None.field-0-is) in (
+      k.reached_is,
+      subst (λ (l : List ℕ). AreAllAbove l c.find.new.self.queues.items) c.as_slice-2.ensures.value w.1,
+    ))
+
 pub returns-in-Ok-None-clause-applied : goal.returns-in-Ok-None-clause-applied
 returns-in-Ok-None-clause-applied c = λ s d k. (returns-in-Ok-None-clause-through c s d k refl).done
 

@@ -1,10 +1,10 @@
 -- What is read, and then followed, or undone.
-use Rattle.std.proofs.Common.{ap, sym, subst, ◌∙◌, ◌<◌, arith, length, Err, List}
+use Rattle.std.proofs.Common.{ap, sym, subst, ◌∙◌, ◌<◌, arith, length, Err, List, refl}
 use Rattle.std.specs.Prelude.{slice_get}
 use Rattle.std.specs.Global.{Vec}
 use Rattle.tau_record.specs.declared.entry.Placed.{Placed}
 use Rattle.tau_scan.specs.declared.fault.LogRefusal.{LogRefusal}
-use Rattle.tau_follow_laws.specs.Feeding.{Piece}
+use Rattle.tau_follow_laws.specs.Feeding.{Piece, with_piece}
 use Rattle.tau_follow.specs.declared.reader.Reader.{Reader}
 use Rattle.tau_follow.specs.Feeding.{AreLonger, IsMarkAt}
 use Rattle.tau_follow.specs.State.{Stands, HasRead}
@@ -12,7 +12,7 @@ use Rattle.tau_follow.proofs.Continuing.{reads_on}
 use Rattle.tau_follow.proofs.Undoing.{same_streams}
 use Rattle.tau_follow.proofs.Waiting.{at_streams}
 use Rattle.tau_follow.proofs.Bytes.{bytes_then}
-use Rattle.tau_follow.proofs.Redoing.{at_undone}
+use Rattle.tau_follow.proofs.Redoing.{at_again, at_undone}
 use Rattle.tau_follow.proofs.state.State.feed_on.Goals as goal
 
 pub returns-in-Err-NoMemory-clause-no_memory : goal.returns-in-Err-NoMemory-clause-no_memory
@@ -35,7 +35,7 @@ returns-in-Ok-follow_new-clause-ok c = λ fed s a.
     let lt = c.requires.stream in
     let low : c.args.stream < length c.args.self.now.streams.items = omega (arith, lt, wide) in
     let high : c.args.stream < length c.args.self.now.readers.items = omega (arith, lt, many) in
-    c.in-Ok-follow_new.ensures.ok c.args.format c.args.n fed s p (record {
+    let g = c.in-Ok-follow_new.ensures.ok c.args.format c.args.n fed s p (record {
       read = c.in-Ok-read_stream.ensures.ok fed a.read;
       bytes = bytes_then fed p a.bytes (λ i. omega (arith, c.type_inv.bytes i));
       follower = a.follower;
@@ -49,7 +49,11 @@ returns-in-Ok-follow_new-clause-ok c = λ fed s a.
     (λ none. same_streams c.args.stream c.args.self.now.streams.items c.args.self.now.readers.items c.read_stream.new.streams.items c.read_stream.new.readers.items c.read_count-before.result c.read_count-after.result low high (c.in-Ok-read_stream.ensures.longer low high)
     (λ ps e. c.read_count-before.ensures ps (ap (λ (l : List (List Placed)). slice_get l c.args.stream) c.as_slice-3.ensures.value ∙ e))
     (λ ps e. c.read_count-after.ensures ps (ap (λ (l : List (List Placed)). slice_get l c.args.stream) c.as_slice-4.ensures.value ∙ e)) (c.is_more.ensures none)
-    ∙ at_streams c.args.format c.args.n fed s c.args.self.now.streams.items a.follower w.fronts))
+    ∙ at_streams c.args.format c.args.n fed s c.args.self.now.streams.items a.follower w.fronts) in
+    (g.0, g.1, at_again c.args.format c.args.n (with_piece fed p) g.0 c.follow_new.new.self _ g.2 refl refl refl refl refl refl refl refl))
+
+pub returns-in_default-clause-no_memory : goal.returns-in_default-clause-no_memory
+returns-in_default-clause-no_memory c = λ fed s a e. at_again c.args.format c.args.n fed s c.args.self.now _ a refl refl refl refl refl refl refl refl
 
 pub returns-in-Err-NoMemory-follow_new-clause-no_memory : goal.returns-in-Err-NoMemory-follow_new-clause-no_memory
 returns-in-Err-NoMemory-follow_new-clause-no_memory c = λ fed s a e.

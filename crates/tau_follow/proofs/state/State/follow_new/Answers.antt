@@ -24,6 +24,7 @@ returns-then-not-more-clause-ok c = λ f n fed s p h on same.
         stands = record {
           staged = record { stages_are = staged.stages_are ∙ sym (stages_same s.out (s.out ++ left_out s.streams) s.order (same_out f n fed s p h.follower) 0 s.streams); passed = staged.passed; kept = staged.kept };
           spots = stands.spots;
+          told = stands.told;
         };
         redone = (let d = h.redone in record { within = d.within; store = d.store; tables = d.tables });
       },

@@ -1,5 +1,5 @@
 -- One stream more, and all of them.
-use Rattle.std.proofs.Common.{◌≡◌, None, ap, ◌∙◌, ◌∷◌, ◌++◌, [], refl, arith}
+use Rattle.std.proofs.Common.{◌≡◌, None, ap, ◌∙◌, ◌∷◌, ◌++◌, [], inl, refl, arith}
 use Rattle.tau_follow.specs.Reading.{IsRead}
 use Rattle.std.proofs.Common.{subst, sym, List, replicate}
 use Rattle.tau_base.specs.Database.{Db}
@@ -31,7 +31,7 @@ returns c = λ f.
       follower = ([], (refl, refl));
       catalogue = None;
       one = begun_one c.args.n;
-      knows = record { known = c.new-4.ensures ∙ ap (with_marks []) (sym (no_marks c.args.n)); declarations = c.none_declared.ensures };
-      stands = record { staged = begun_staged c.args.n c.loop.counter _ _ _ all c.loop.invariant.1 c.in_ok-firsts.ensures c.new-3.ensures; spots = subst (λ (l : List Spot). AreSpots (replicate c.args.n []) l []) (sym c.new-2.ensures.items) tt };
+      knows = record { known = c.new-5.ensures ∙ ap (with_marks []) (sym (no_marks c.args.n)); declarations = c.none_declared.ensures };
+      stands = record { staged = begun_staged c.args.n c.loop.counter _ _ _ all c.loop.invariant.1 c.in_ok-firsts.ensures c.new-3.ensures; spots = subst (λ (l : List Spot). AreSpots (replicate c.args.n []) l []) (sym c.new-2.ensures.items) tt; told = inl refl };
       redone = record { within = omega arith; store = c.new-store.ensures; tables = subst (λ (x : Db). IsTablesOf x c.in_ok-tables.tables) c.new-store.ensures c.in_ok-tables.ensures };
     })
