@@ -151,8 +151,37 @@ fn put_recovery(alloc: Global, follower: &Follower, lines: &mut Vec<u8>) -> Resu
     }
 }
 
-// What a follower tells that is fed the pieces of a text: its lines, and the text of recovery. Where a feed or the end is
-// bad, the lines before.
+// Feeds a follower the pieces of a text, seals it, and puts what it tells: its lines, and the text of recovery. If a feed
+// or the end is bad, the lines before.
+fn feed_and_seal(
+    alloc: Global,
+    follower: &mut Follower,
+    streams: u8,
+    text: &[u8],
+    lines: &mut Vec<u8>,
+) -> Result<(), FollowRefusal>
+    requires within { length text.now ≤ MAX_WORKLOAD }
+    requires begun { Follows (fed_format streams) streams (replicate streams []) (begun streams) follower.old }
+    requires open { IsOpen follower.old }
+    requires empty { lines.old.items ≡ [] }
+    ensures ok { (pieces : List OnePiece) → ArePieces streams pieces text.now → OnOk result (IsFollowed streams pieces lines.new.items) }
+    ensures bad { (pieces : List OnePiece) (fault : OneFault) → ArePieces streams pieces text.now → result ≡ Err (refusals.Bad fault) → IsBadFollowed streams pieces fault lines.new.items }
+{
+    match feed_pieces(alloc, follower, streams, text, lines) {
+        Ok(()) => {}
+        Err(e) => return Err(e),
+    }
+    match follower.seal() {
+        Ok(()) => {}
+        Err(e) => return Err(e),
+    }
+    match put_recovery(alloc, follower, lines) {
+        Ok(()) => Ok(()),
+        Err(_) => Err(FollowRefusal::NoMemory),
+    }
+}
+
+// The same of a follower that begins with nothing.
 fn follow_text(
     alloc: Global,
     streams: u8,
@@ -170,18 +199,7 @@ fn follow_text(
     let Ok(mut follower) = Follower::new(alloc, fed_format(n), n) else {
         return Err(FollowRefusal::NoMemory);
     };
-    match feed_pieces(alloc, &mut follower, streams, text, lines) {
-        Ok(()) => {}
-        Err(e) => return Err(e),
-    }
-    match follower.seal() {
-        Ok(()) => {}
-        Err(e) => return Err(e),
-    }
-    match put_recovery(alloc, &follower, lines) {
-        Ok(()) => Ok(()),
-        Err(_) => Err(FollowRefusal::NoMemory),
-    }
+    feed_and_seal(alloc, &mut follower, streams, text, lines)
 }
 
 // Writes these lines and then that of a refusal, and returns with its status, or for lack of memory with NoMemory and

@@ -1,5 +1,5 @@
 -- What the parts of a core lie in when the desk opens, and what its actors have then.
-use Rattle.std.specs.Prelude.{ℕ, ◌+◌, ◌*◌, ◌<◌, ◌≡◌, Option, Some, None, List, [], length, replicate, slice_get, slice_index}
+use Rattle.std.specs.Prelude.{ℕ, ◌+◌, ◌*◌, ◌<◌, ◌≡◌, ◌++◌, Option, Some, None, List, [], length, replicate, slice_get, slice_index}
 use Rattle.tau_shard.specs.Plain.{PlainShard}
 use Rattle.tau_core.specs.Plain.{PlainSeat, PlainStream}
 use Rattle.tau_rule.specs.declared.part.Part.{Part}
@@ -68,3 +68,15 @@ pub record AreFirstWords (parts : ℕ) (ends plv words : List ℕ) : Type 0 wher
   pub ends_are : AreWords words parts ends
   pub plv_are : AreWords words (parts + length ends) plv
   pub stop : slice_index words (8 * (parts + (length ends + length ends))) ≡ 0
+
+-- each part of a core lies in a slot, in the order of their numbers, and the workers and the managers have what is their own
+pub record AreLaid (ends : List ℕ) (shards : List PlainShard) (seats : List PlainSeat) (streams : List PlainStream) (slots : List (Option Part)) (works : List (Option PlainWork)) (stocks : List (Option PlainStock)) : Type 0 where
+  pub shard_slots : List (Option Part)
+  pub box_slots : List (Option Part)
+  pub anchor_slots : List (Option Part)
+  pub have_shards : EachOf HasShard shards shard_slots
+  pub have_boxes : EachOf HasBox seats box_slots
+  pub have_anchors : EachOf (HasAnchor (length ends)) streams anchor_slots
+  pub slots_are : slots ≡ (shard_slots ++ box_slots) ++ anchor_slots
+  pub own_work : EachOf IsItsWork seats works
+  pub own_stock : EachOf (IsItsStock ends) streams stocks

@@ -10,7 +10,7 @@ ghost use Rattle.tau_rule.specs.Rule.{part_count};
 ghost use Rattle.tau_desk.specs.Close.{IsShardOf, IsBoxOf};
 ghost use Rattle.tau_desk.specs.Ends.{AreResting, IsFirst, IsWhole};
 ghost use Rattle.tau_desk.specs.Kept.{HasRoom};
-ghost use Rattle.tau_desk.specs.Laid.{AreUnbegun, AreFirstWords, AreWords, EachOf, HasAnchor, HasBox, HasShard, IsFirstAnchor, IsItsStock, IsItsWork, stock_at, work_of};
+ghost use Rattle.tau_desk.specs.Laid.{AreUnbegun, AreFirstWords, AreLaid, AreWords, EachOf, HasAnchor, HasBox, HasShard, IsFirstAnchor, IsItsStock, IsItsWork, stock_at, work_of};
 
 use crate::desk::Desk;
 use crate::kept::Kept;
@@ -95,12 +95,14 @@ fn desk_of(alloc: Global, core: Core, style: Style) -> Result<(Desk, Head), NoMe
         gathered: _,
         plv,
     } = core.into_parts();
-    let kept = kept_of(alloc, &load)?;
-    let (boxes, workers) = lay_seats(alloc, seats)?;
-    let (anchors, managers) = lay_streams(alloc, streams, &ends)?;
-    let slots = all_of(lay_shards(alloc, shards)?, boxes, anchors)?;
+    let Laid {
+        slots,
+        workers,
+        managers,
+    } = lay_all(alloc, shards, seats, streams, &ends)?;
     let parts = slots.len();
     let words = first_words(alloc, parts, &ends, &plv)?;
+    let kept = kept_of(alloc, &load)?;
     let Ok((table, seat)) = Table::new(alloc, words.as_slice(), slots, &key) else {
         return Err(NoMemory);
     };
@@ -121,6 +123,34 @@ fn desk_of(alloc: Global, core: Core, style: Style) -> Result<(Desk, Head), NoMe
         seen: ends,
     };
     Ok((desk, head))
+}
+
+/// Each part of a core in a slot, and what the workers and the managers have of their own.
+#[derive(Drop)]
+struct Laid {
+    slots: Vec<Option<Part>>,
+    workers: Vec<Option<Work>>,
+    managers: Vec<Option<Stock>>,
+}
+
+fn lay_all(
+    alloc: Global,
+    shards: Vec<Shard>,
+    seats: Vec<tau_core::Seat>,
+    streams: Vec<Stream>,
+    ends: &Lv,
+) -> Result<Laid, NoMemory>
+    requires rest { (j : ℕ) (s : PlainStream) → slice_get streams.items j ≡ Some s → s.own.pieces ≡ [] }
+    ensures { IfOk result (λ laid. AreLaid ends.now shards.items seats.items streams.items laid.slots.items laid.workers.items laid.managers.items) }
+{
+    let (boxes, workers) = lay_seats(alloc, seats)?;
+    let (anchors, managers) = lay_streams(alloc, streams, ends)?;
+    let slots = all_of(lay_shards(alloc, shards)?, boxes, anchors)?;
+    Ok(Laid {
+        slots,
+        workers,
+        managers,
+    })
 }
 
 /// The room for the core that the desk makes when it closes.

@@ -6,6 +6,7 @@ ghost use Rattle.tau_base.specs.declared.value.LogMode.TheVariants.{Values};
 ghost use Rattle.tau_base.specs.Modes.{most_streams};
 ghost use Rattle.tau_disk.specs.Disk.{Rose};
 ghost use Rattle.tau_disk.specs.Memory.{seen_by};
+ghost use Rattle.tau_disk.specs.Streams.{held_by};
 ghost use Rattle.tau_disk.specs.Used.{AreEmpty};
 ghost use Rattle.tau_occ.specs.declared.style.Style.TheVariants.{Locking};
 ghost use Rattle.tau_text.specs.Canonical.{declarations_text};
@@ -15,6 +16,7 @@ ghost use Rattle.tau_scan.specs.Reading.{log_of};
 ghost use Rattle.tau_scan.specs.Taken.{Kept};
 ghost use Rattle.tau_replay.specs.Redone.{IsOrderOf};
 ghost use Rattle.tau_report.specs.Lines.{line};
+ghost use Rattle.tau_gen.specs.Generated.{generated};
 ghost use Rattle.tau_run.specs.Gives.{GaveNew};
 ghost use Rattle.tau_run.specs.Start.{catalogue_of};
 ghost use Rattle.tau_run.specs.CoreRun.{IsSoundLoad};
@@ -336,6 +338,34 @@ fn measured_text(
     Ok(text)
 }
 
+/// Runs the generated calls on these new disks, recovers them, and says what came of both.
+fn measure_on<R: Threads + Wait + Sync, G: Gate + Sync>(
+    rt: &R,
+    alloc: Global,
+    load: &Workload,
+    job: Job,
+    out: &mut MemSink,
+    disks: &mut Vec<MemDisk>,
+    gate: &G,
+) -> Result<String, NoMemory>
+    requires start { job.start ≤ 999 }
+    requires calls { job.calls ≤ MAX_CALLS }
+    requires streams_low { 1 ≤ job.streams }
+    requires streams_high { job.streams ≤ MAX_COUNT }
+    requires low { 1 ≤ job.workers }
+    requires high { job.workers ≤ MAX_COUNT }
+    requires load { load.now ≡ generated job.start job.calls }
+    requires count { vec_len disks.old ≡ job.streams }
+    requires new { AreNewDisks (λ j d. Unit {0}) disks.old.items }
+    requires empty { held_by out.old ≡ [] }
+    ensures { IfOk result (λ text. string_bytes text ≡ bench_text job.start job.calls) }
+{
+    let rows = play(rt, alloc, load, job, out, disks, gate)?;
+    let acked = lines_in(out.bytes());
+    let again = recovered(rt, alloc, job.workers, disks.as_mut_slice(), gate)?;
+    measured_text(alloc, &load.declarations, job.calls, acked, &rows, &again)
+}
+
 /// Runs the generated calls, recovers them, and says what came of both.
 fn measure<R: Threads + Wait + Sync, G: Gate + Sync>(
     rt: &R,
@@ -354,10 +384,7 @@ fn measure<R: Threads + Wait + Sync, G: Gate + Sync>(
     let load = generate(alloc, job.start, job.calls)?;
     let mut disks = new_disks(alloc, job.streams)?;
     let mut out = MemSink::new(alloc, &[])?;
-    let rows = play(rt, alloc, &load, job, &mut out, &mut disks, gate)?;
-    let acked = lines_in(out.bytes());
-    let again = recovered(rt, alloc, job.workers, disks.as_mut_slice(), gate)?;
-    measured_text(alloc, &load.declarations, job.calls, acked, &rows, &again)
+    measure_on(rt, alloc, &load, job, &mut out, &mut disks, gate)
 }
 
 /// Does the measured job: runs the generated calls by so many workers on so many new disks in memory, recovers from

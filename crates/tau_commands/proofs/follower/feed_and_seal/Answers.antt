@@ -1,7 +1,7 @@
 use Rattle.std.proofs.Common.{◌∙◌, inr}
 use Rattle.tau_follow.specs.Follower.{rows_of}
 use Rattle.tau_commands.specs.Following.{fed_format}
-use Rattle.tau_commands.proofs.follower.follow_text.Goals as goal
+use Rattle.tau_commands.proofs.follower.feed_and_seal.Goals as goal
 
 pub returns-in-Err-seal-clause-bad : goal.returns-in-Err-seal-clause-bad
 returns-in-Err-seal-clause-bad c pieces fault are e =
