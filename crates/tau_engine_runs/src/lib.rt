@@ -14,7 +14,11 @@ mod reopened;
 #[cfg(test)]
 mod runs;
 #[cfg(test)]
+mod scenes;
+#[cfg(test)]
 mod script;
+#[cfg(test)]
+mod spell;
 #[cfg(test)]
 mod stops;
 #[cfg(test)]

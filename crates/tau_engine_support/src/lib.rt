@@ -12,11 +12,6 @@ use std::thread::Threads;
 use tau_disk::{Gate, MemDisk, MemSink, MemSource, Quiet, Tear};
 use tau_engine::{DISKS, Status, taurus};
 
-mod scenes;
-mod spell;
-
-pub use scenes::{With, play, play_rows, play_with};
-
 /// The disks of a call, of which these are the first two.
 pub fn disks_of(alloc: Global, first: MemDisk, second: MemDisk) -> Result<Vec<MemDisk>, Fail> {
     let mut disks = Vec::new(alloc);

@@ -11,24 +11,24 @@
 //! - `= CODE` makes the call, which ends with this code. All of what it told has to be looked at: `< LINE` is the next line, `~ LINE` one
 //!   of the next ones, in whichever order. Or it is looked at as a whole: `has LINE`, and `count N START`, lines that begin so.
 //! - `had J N` and `held J IMAGE` look at a disk: how many calls it has had, and what it holds. `idle` says that no disk was called.
-use crate::lines_from;
 use crate::spell::{image_of, number_of, numbers_of, put_bytes, put_piece, word_of, words_of};
 use std::alloc::Global;
 use std::process::Abort;
 use std::str;
 use std::sync::Wait;
-use std::test::Fail;
+use std::test::*;
 use std::thread::Threads;
 use tau_disk::{Gate, MemDisk, MemSink, MemSource, Quiet, Tear};
 use tau_engine::{DISKS, taurus};
+use tau_engine_support::lines_from;
 
 /// What scenes are played with: a text that their sources may hold, and the fields of a row, with ` / ` between them.
 #[derive(Clone, Copy)]
-pub struct With<'t> {
+pub(crate) struct With<'t> {
     /// The text.
-    pub given: &'t str,
+    pub(crate) given: &'t str,
     /// The row.
-    pub row: &'t str,
+    pub(crate) row: &'t str,
 }
 
 /// What a scene has come to.
@@ -448,7 +448,7 @@ fn fault(number: u64, line: &str, told: &[u8]) -> Fail {
 }
 
 /// Plays the scenes with what they are given.
-pub fn play_with<R: Threads + Wait + Sync + Abort>(
+pub(crate) fn play_with<R: Threads + Wait + Sync + Abort>(
     rt: &R,
     alloc: Global,
     scenes: &str,
@@ -470,7 +470,7 @@ pub fn play_with<R: Threads + Wait + Sync + Abort>(
 }
 
 /// Plays the scenes.
-pub fn play<R: Threads + Wait + Sync + Abort>(
+pub(crate) fn play<R: Threads + Wait + Sync + Abort>(
     rt: &R,
     alloc: Global,
     scenes: &str,
@@ -479,7 +479,7 @@ pub fn play<R: Threads + Wait + Sync + Abort>(
 }
 
 /// Plays the scenes with each of these rows, a line each.
-pub fn play_rows<R: Threads + Wait + Sync + Abort>(
+pub(crate) fn play_rows<R: Threads + Wait + Sync + Abort>(
     rt: &R,
     alloc: Global,
     scenes: &str,
