@@ -95,11 +95,7 @@ fn desk_of(alloc: Global, core: Core, style: Style) -> Result<(Desk, Head), NoMe
         gathered: _,
         plv,
     } = core.into_parts();
-    let Laid {
-        slots,
-        workers,
-        managers,
-    } = lay_all(alloc, shards, seats, streams, &ends)?;
+    let (slots, workers, managers) = lay_all(alloc, shards, seats, streams, &ends)?;
     let parts = slots.len();
     let words = first_words(alloc, parts, &ends, &plv)?;
     let kept = kept_of(alloc, &load)?;
@@ -125,14 +121,10 @@ fn desk_of(alloc: Global, core: Core, style: Style) -> Result<(Desk, Head), NoMe
     Ok((desk, head))
 }
 
-/// Each part of a core in a slot, and what the workers and the managers have of their own.
-#[derive(Drop)]
-struct Laid {
-    slots: Vec<Option<Part>>,
-    workers: Vec<Option<Work>>,
-    managers: Vec<Option<Stock>>,
-}
+/// What the parts of a core lie in: the slots of all, and what the workers and the managers have of their own.
+type Laid = (Vec<Option<Part>>, Vec<Option<Work>>, Vec<Option<Stock>>);
 
+/// Each part of a core in a slot, and what the workers and the managers have of their own.
 fn lay_all(
     alloc: Global,
     shards: Vec<Shard>,
@@ -141,16 +133,12 @@ fn lay_all(
     ends: &Lv,
 ) -> Result<Laid, NoMemory>
     requires rest { (j : ℕ) (s : PlainStream) → slice_get streams.items j ≡ Some s → s.own.pieces ≡ [] }
-    ensures { IfOk result (λ laid. AreLaid ends.now shards.items seats.items streams.items laid.slots.items laid.workers.items laid.managers.items) }
+    ensures { IfOk result (λ laid. AreLaid ends.now shards.items seats.items streams.items laid.0.items laid.1.items laid.2.items) }
 {
     let (boxes, workers) = lay_seats(alloc, seats)?;
     let (anchors, managers) = lay_streams(alloc, streams, ends)?;
     let slots = all_of(lay_shards(alloc, shards)?, boxes, anchors)?;
-    Ok(Laid {
-        slots,
-        workers,
-        managers,
-    })
+    Ok((slots, workers, managers))
 }
 
 /// The room for the core that the desk makes when it closes.
