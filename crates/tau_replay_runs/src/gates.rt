@@ -1,9 +1,12 @@
 //! Records that are redone at the same time.
-use crate::support::{APART, FIRST, holds, log_of, tables_of};
+use crate::logs::APART;
+use crate::play::is_given;
+use crate::spelled::log_of;
 use std::sync::atomic::{AtomicU64, Ordering};
 use std::test::*;
 use std::thread;
 use tau_disk::{Gate, Place};
+use tau_replay::replay_threads;
 
 // Holds the first record of each of two workers until the other's was reached.
 #[derive(Drop)]
@@ -29,26 +32,6 @@ impl Both {
     }
 }
 
-impl Both {
-    // Nothing was reached yet.
-    fn new() -> Both {
-        Both {
-            first: AtomicU64::new(0),
-            second: AtomicU64::new(0),
-            late: AtomicU64::new(0),
-        }
-    }
-
-    // Whether the first and the second were reached, and whether one came too late.
-    fn seen(&self) -> (u64, u64, u64) {
-        (
-            self.first.load(Ordering::SeqCst),
-            self.second.load(Ordering::SeqCst),
-            self.late.load(Ordering::SeqCst),
-        )
-    }
-}
-
 impl Gate for Both {
     fn at(&self, place: Place) {
         match place {
@@ -60,11 +43,16 @@ impl Gate for Both {
 }
 
 #[test]
-fn two_records_in_flight(rt: HostRuntime) -> Result<(), Fail> {
-    let log = log_of(rt.alloc(), FIRST, APART)?;
-    let gate = Both::new();
-    let tables = tables_of(&rt, rt.alloc(), &log, 2, &gate)?;
-    holds(&rt, &tables, &[(1, 5), (2, 6)]);
-    assert_eq!(rt; gate.seen(), (1, 1, 0));
-    Ok(())
+fn two_records_in_flight(rt: HostRuntime) {
+    let log = log_of(rt.alloc(), APART).expect(&rt, "a log");
+    let gate = Both {
+        first: AtomicU64::new(0),
+        second: AtomicU64::new(0),
+        late: AtomicU64::new(0),
+    };
+    let found = replay_threads(&rt, rt.alloc(), &log, 2, &gate);
+    assert!(rt; is_given(rt.alloc(), &found, "1:5 2:6") == Some(true));
+    assert!(rt; gate.first.load(Ordering::SeqCst) == 1);
+    assert!(rt; gate.second.load(Ordering::SeqCst) == 1);
+    assert!(rt; gate.late.load(Ordering::SeqCst) == 0);
 }

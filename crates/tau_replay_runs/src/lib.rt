@@ -2,16 +2,12 @@
 #![tactic(auto)]
 
 #[cfg(test)]
-mod behind;
-#[cfg(test)]
-mod calls;
-#[cfg(test)]
 mod gates;
 #[cfg(test)]
-mod rows;
+mod logs;
 #[cfg(test)]
-mod support;
+mod play;
 #[cfg(test)]
-mod wide;
+mod spelled;
 #[cfg(test)]
-mod worked;
+mod turns;
