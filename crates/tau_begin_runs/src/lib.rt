@@ -2,10 +2,8 @@
 #![tactic(auto)]
 
 #[cfg(test)]
-mod causes;
+mod names;
 #[cfg(test)]
-mod failing;
+mod play;
 #[cfg(test)]
-mod opening;
-#[cfg(test)]
-mod support;
+mod scenes;
