@@ -2,10 +2,10 @@
 #![tactic(auto)]
 
 #[cfg(test)]
-mod banks;
+mod bank;
 #[cfg(test)]
-mod orders;
+mod play;
 #[cfg(test)]
-mod styles;
+mod streams;
 #[cfg(test)]
-mod tests;
+mod turns;
