@@ -1,282 +1,164 @@
 //! Every cause at its edge, and logs of format 2 of more runs than one, against values worked out by hand.
-use crate::images::{FIRST, Image, WIDE};
-use crate::logs::{
-    ANCHOR, BODY, COUNT, Edge, FIRST_BODY, FIRST_KIND, Found, GATE, INDEX, KIND, LATER_BODY,
-    LENGTH, MAGIC, MASK, Row, SHORT, Streams, Told, are_read, have_causes,
-};
-use std::test::*;
-use tau_scan::LogCause;
+use crate::play::play;
 
-/// The header and the gates of stream 0 of two in format 1.
-static NARROW_IMAGES: [Edge; 20] = [
-    // the first twelve bytes
-    (0, 0, Some(MAGIC)),
-    (11, 51, Some(MAGIC)),
-    // the number of streams
-    (12, 1, Some(COUNT)),
-    (13, 0, Some(COUNT)),
-    (13, 17, Some(COUNT)),
-    (
-        13,
-        16,
-        Some(LogCause::Count {
-            asked: 2,
-            found: 16,
-        }),
-    ),
-    (13, 1, Some(LogCause::Count { asked: 2, found: 1 })),
-    // the stream
-    (14, 1, Some(INDEX)),
-    (15, 1, Some(INDEX)),
-    // the gates and lengths of both blocks
-    (16, 0, None),
-    (16, 2, None),
-    (17, 1, Some(GATE)),
-    (20, 0, Some(GATE)),
-    (34, 0, None),
-    (34, 2, None),
-    (35, 1, Some(GATE)),
-    (38, 0, Some(GATE)),
-    (38, 41, Some(GATE)),
-    (38, 39, Some(SHORT)),
-    (79, 1, Some(GATE)),
-];
-
-/// Its records: `put a 1 5` at 13.
-static NARROW_RECORDS: [Edge; 30] = [
-    // the catalogue
-    (21, 1, Some(FIRST_KIND)),
-    (21, 5, Some(FIRST_KIND)),
-    (25, 14, Some(FIRST_BODY)),
-    (26, 120, Some(FIRST_BODY)),
-    // the kind
-    (39, 0, Some(KIND)),
-    (39, 4, Some(KIND)),
-    (39, 6, Some(KIND)),
-    (39, 2, Some(LENGTH)),
-    (39, 3, Some(LENGTH)),
-    (39, 5, Some(BODY)),
-    // the length
-    (40, 1, Some(SHORT)),
-    (43, 41, Some(SHORT)),
-    (43, 39, Some(LENGTH)),
-    (43, 4, Some(LENGTH)),
-    // the call and the anchor
-    (51, 0, Some(BODY)),
-    (51, 7, None),
-    (55, 1, Some(ANCHOR)),
-    // the mask
-    (56, 128, Some(MASK)),
-    (57, 4, Some(MASK)),
-    // the count of writes
-    (59, 0, Some(BODY)),
-    (59, 2, Some(LENGTH)),
-    (59, 64, Some(LENGTH)),
-    (59, 65, Some(BODY)),
-    (58, 1, Some(BODY)),
-    // the write
-    (61, 1, Some(BODY)),
-    (69, 2, None),
-    (70, 0, Some(LENGTH)),
-    (70, 2, Some(LENGTH)),
-    (70, 3, Some(BODY)),
-    (78, 9, None),
-];
-
-/// The same in format 2.
-static WIDE_IMAGES: [Edge; 20] = [
-    // the first twelve bytes
-    (0, 0, Some(MAGIC)),
-    (11, 51, Some(MAGIC)),
-    // the number of streams
-    (12, 1, Some(COUNT)),
-    (13, 0, Some(COUNT)),
-    (13, 33, Some(COUNT)),
-    (
-        13,
-        32,
-        Some(LogCause::Count {
-            asked: 2,
-            found: 32,
-        }),
-    ),
-    (13, 1, Some(LogCause::Count { asked: 2, found: 1 })),
-    // the stream
-    (14, 1, Some(INDEX)),
-    (15, 1, Some(INDEX)),
-    // the gates and lengths of both blocks
-    (16, 0, None),
-    (16, 2, None),
-    (17, 1, Some(GATE)),
-    (20, 0, Some(GATE)),
-    (34, 0, None),
-    (34, 2, None),
-    (35, 1, Some(GATE)),
-    (38, 0, Some(GATE)),
-    (38, 43, Some(GATE)),
-    (38, 41, Some(SHORT)),
-    (81, 1, Some(GATE)),
-];
-
-/// Likewise.
-static WIDE_RECORDS: [Edge; 32] = [
-    // the catalogue
-    (21, 1, Some(FIRST_KIND)),
-    (21, 5, Some(FIRST_KIND)),
-    (25, 14, Some(FIRST_BODY)),
-    (26, 120, Some(FIRST_BODY)),
-    // the kind
-    (39, 0, Some(KIND)),
-    (39, 4, Some(KIND)),
-    (39, 6, Some(KIND)),
-    (39, 2, Some(LENGTH)),
-    (39, 3, Some(LENGTH)),
-    (39, 5, Some(BODY)),
-    // the length
-    (40, 1, Some(SHORT)),
-    (43, 43, Some(SHORT)),
-    (43, 41, Some(LENGTH)),
-    (43, 4, Some(LENGTH)),
-    // the call and the anchor
-    (51, 0, Some(BODY)),
-    (51, 7, None),
-    (55, 1, Some(ANCHOR)),
-    // the mask
-    (56, 128, Some(MASK)),
-    (57, 1, Some(MASK)),
-    (58, 128, Some(MASK)),
-    (59, 4, Some(MASK)),
-    // the count of writes
-    (61, 0, Some(BODY)),
-    (61, 2, Some(LENGTH)),
-    (61, 64, Some(LENGTH)),
-    (61, 65, Some(BODY)),
-    (60, 1, Some(BODY)),
-    // the write
-    (63, 1, Some(BODY)),
-    (71, 2, None),
-    (72, 0, Some(LENGTH)),
-    (72, 2, Some(LENGTH)),
-    (72, 3, Some(BODY)),
-    (80, 9, None),
-];
+static EDGES: &str = "
+# the header and the gates of stream 0 of two in format 1, and its records: `put a 1 5` at 13
+# the first twelve bytes
+scan any first,0=0 narrow-1 = bad 0 BadMagic
+scan any first,11=51 narrow-1 = bad 0 BadMagic
+# the number of streams
+scan any first,12=1 narrow-1 = bad 0 BadCount
+scan any first,13=0 narrow-1 = bad 0 BadCount
+scan any first,13=17 narrow-1 = bad 0 BadCount
+scan any first,13=16 narrow-1 = bad 0 Count 2 16
+scan any first,13=1 narrow-1 = bad 0 Count 2 1
+# the stream
+scan any first,14=1 narrow-1 = bad 0 BadIndex
+scan any first,15=1 narrow-1 = bad 0 BadIndex
+# the gates and lengths of both blocks
+scan any first,16=0 narrow-1 = log
+scan any first,16=2 narrow-1 = log
+scan any first,17=1 narrow-1 = bad 0 OpenGateWithoutBlock
+scan any first,20=0 narrow-1 = bad 0 OpenGateWithoutBlock
+scan any first,34=0 narrow-1 = log
+scan any first,34=2 narrow-1 = log
+scan any first,35=1 narrow-1 = bad 0 OpenGateWithoutBlock
+scan any first,38=0 narrow-1 = bad 0 OpenGateWithoutBlock
+scan any first,38=41 narrow-1 = bad 0 OpenGateWithoutBlock
+scan any first,38=39 narrow-1 = bad 0 Short 13
+scan any first,79=1 narrow-1 = bad 0 OpenGateWithoutBlock
+# the catalogue
+scan any first,21=1 narrow-1 = bad 0 BadKind 0
+scan any first,21=5 narrow-1 = bad 0 BadKind 0
+scan any first,25=14 narrow-1 = bad 0 BadBody 0
+scan any first,26=120 narrow-1 = bad 0 BadBody 0
+# the kind
+scan any first,39=0 narrow-1 = bad 0 BadKind 13
+scan any first,39=4 narrow-1 = bad 0 BadKind 13
+scan any first,39=6 narrow-1 = bad 0 BadKind 13
+scan any first,39=2 narrow-1 = bad 0 BadLength 13
+scan any first,39=3 narrow-1 = bad 0 BadLength 13
+scan any first,39=5 narrow-1 = bad 0 BadBody 13
+# the length
+scan any first,40=1 narrow-1 = bad 0 Short 13
+scan any first,43=41 narrow-1 = bad 0 Short 13
+scan any first,43=39 narrow-1 = bad 0 BadLength 13
+scan any first,43=4 narrow-1 = bad 0 BadLength 13
+# the call and the anchor
+scan any first,51=0 narrow-1 = bad 0 BadBody 13
+scan any first,51=7 narrow-1 = log
+scan any first,55=1 narrow-1 = bad 0 BadAnchor 13
+# the mask
+scan any first,56=128 narrow-1 = bad 0 BadMask 13
+scan any first,57=4 narrow-1 = bad 0 BadMask 13
+# the count of writes
+scan any first,59=0 narrow-1 = bad 0 BadBody 13
+scan any first,59=2 narrow-1 = bad 0 BadLength 13
+scan any first,59=64 narrow-1 = bad 0 BadLength 13
+scan any first,59=65 narrow-1 = bad 0 BadBody 13
+scan any first,58=1 narrow-1 = bad 0 BadBody 13
+# the write
+scan any first,61=1 narrow-1 = bad 0 BadBody 13
+scan any first,69=2 narrow-1 = log
+scan any first,70=0 narrow-1 = bad 0 BadLength 13
+scan any first,70=2 narrow-1 = bad 0 BadLength 13
+scan any first,70=3 narrow-1 = bad 0 BadBody 13
+scan any first,78=9 narrow-1 = log
+# the same in format 2
+# the first twelve bytes
+scan any wide,0=0 wide-1 = bad 0 BadMagic
+scan any wide,11=51 wide-1 = bad 0 BadMagic
+# the number of streams
+scan any wide,12=1 wide-1 = bad 0 BadCount
+scan any wide,13=0 wide-1 = bad 0 BadCount
+scan any wide,13=33 wide-1 = bad 0 BadCount
+scan any wide,13=32 wide-1 = bad 0 Count 2 32
+scan any wide,13=1 wide-1 = bad 0 Count 2 1
+# the stream
+scan any wide,14=1 wide-1 = bad 0 BadIndex
+scan any wide,15=1 wide-1 = bad 0 BadIndex
+# the gates and lengths of both blocks
+scan any wide,16=0 wide-1 = log
+scan any wide,16=2 wide-1 = log
+scan any wide,17=1 wide-1 = bad 0 OpenGateWithoutBlock
+scan any wide,20=0 wide-1 = bad 0 OpenGateWithoutBlock
+scan any wide,34=0 wide-1 = log
+scan any wide,34=2 wide-1 = log
+scan any wide,35=1 wide-1 = bad 0 OpenGateWithoutBlock
+scan any wide,38=0 wide-1 = bad 0 OpenGateWithoutBlock
+scan any wide,38=43 wide-1 = bad 0 OpenGateWithoutBlock
+scan any wide,38=41 wide-1 = bad 0 Short 13
+scan any wide,81=1 wide-1 = bad 0 OpenGateWithoutBlock
+# the catalogue
+scan any wide,21=1 wide-1 = bad 0 BadKind 0
+scan any wide,21=5 wide-1 = bad 0 BadKind 0
+scan any wide,25=14 wide-1 = bad 0 BadBody 0
+scan any wide,26=120 wide-1 = bad 0 BadBody 0
+# the kind
+scan any wide,39=0 wide-1 = bad 0 BadKind 13
+scan any wide,39=4 wide-1 = bad 0 BadKind 13
+scan any wide,39=6 wide-1 = bad 0 BadKind 13
+scan any wide,39=2 wide-1 = bad 0 BadLength 13
+scan any wide,39=3 wide-1 = bad 0 BadLength 13
+scan any wide,39=5 wide-1 = bad 0 BadBody 13
+# the length
+scan any wide,40=1 wide-1 = bad 0 Short 13
+scan any wide,43=43 wide-1 = bad 0 Short 13
+scan any wide,43=41 wide-1 = bad 0 BadLength 13
+scan any wide,43=4 wide-1 = bad 0 BadLength 13
+# the call and the anchor
+scan any wide,51=0 wide-1 = bad 0 BadBody 13
+scan any wide,51=7 wide-1 = log
+scan any wide,55=1 wide-1 = bad 0 BadAnchor 13
+# the mask
+scan any wide,56=128 wide-1 = bad 0 BadMask 13
+scan any wide,57=1 wide-1 = bad 0 BadMask 13
+scan any wide,58=128 wide-1 = bad 0 BadMask 13
+scan any wide,59=4 wide-1 = bad 0 BadMask 13
+# the count of writes
+scan any wide,61=0 wide-1 = bad 0 BadBody 13
+scan any wide,61=2 wide-1 = bad 0 BadLength 13
+scan any wide,61=64 wide-1 = bad 0 BadLength 13
+scan any wide,61=65 wide-1 = bad 0 BadBody 13
+scan any wide,60=1 wide-1 = bad 0 BadBody 13
+# the write
+scan any wide,63=1 wide-1 = bad 0 BadBody 13
+scan any wide,71=2 wide-1 = log
+scan any wide,72=0 wide-1 = bad 0 BadLength 13
+scan any wide,72=2 wide-1 = bad 0 BadLength 13
+scan any wide,72=3 wide-1 = bad 0 BadBody 13
+scan any wide,80=9 wide-1 = log
+# epoch 1 of stream 0: its length, number and first component. Its kind stands in byte 39 of the image
+scan any wide-two-runs-0,43=24 wide-two-runs-1 = bad 0 BadLength 13
+scan any wide-two-runs-0,43=26 wide-two-runs-1 = bad 0 BadLength 13
+scan any wide-two-runs-0,43=8 wide-two-runs-1 = bad 0 BadLength 13
+scan any wide-two-runs-0,47=0 wide-two-runs-1 = bad 0 BadBody 13
+scan any wide-two-runs-0,47=1 wide-two-runs-1 = log
+scan any wide-two-runs-0,47=2 wide-two-runs-1 = log
+scan any wide-two-runs-0,44=255 wide-two-runs-1 = log
+scan any wide-two-runs-0,48=64 wide-two-runs-1 = bad 0 BadBody 13
+scan any wide-two-runs-0,56=64 wide-two-runs-1 = bad 0 BadBody 13
+";
 
 #[test]
-fn each_cause_of_format_1_at_its_edge(rt: HostRuntime) -> Result<(), Fail> {
-    let second = [Image::Catalogue(b'1', 2, 1)];
-    have_causes(&rt, rt.alloc(), FIRST, &second, &NARROW_IMAGES)?;
-    have_causes(&rt, rt.alloc(), FIRST, &second, &NARROW_RECORDS)
+fn each_cause_at_its_edge(rt: HostRuntime) {
+    play(&rt, rt.alloc(), EDGES);
 }
 
-#[test]
-fn each_cause_of_format_2_at_its_edge(rt: HostRuntime) -> Result<(), Fail> {
-    let second = [Image::Catalogue(b'2', 2, 1)];
-    have_causes(&rt, rt.alloc(), WIDE, &second, &WIDE_IMAGES)?;
-    have_causes(&rt, rt.alloc(), WIDE, &second, &WIDE_RECORDS)
-}
-
-/// Stream 0 of two after a second run: epoch 1 with (13,63) at 13, and at 38 the record of its call 1, with this
-/// vector.
-const RUN_TWICE: &str =
-    "5441555255532d4c4f472d32 0002 0000 01 0000000d 04 0000000d 7461626c6520610a \
-    01 00000019 05 00000019 00000001 000000000000000d 000000000000003f \
-    01 0000003a 01 0000003a 0000000000000001 00000000 00000003 000000000000000d 000000000000003f 0001 0000 0000000000000007 01 0000000000000001 00";
-
-/// Stream 1 likewise: at 13 the record of call 2 with the vector (55,0), which the first run left and (13,63) does
-/// not cover, and epoch 1 at 63.
-const RUN_TWICE_TOO: &str =
-    "5441555255532d4c4f472d32 0002 0001 01 0000000d 04 0000000d 7461626c6520610a \
-    01 00000032 01 00000032 0000000000000002 00000000 00000001 0000000000000037 0001 0000 0000000000000001 01 0000000000000007 \
-    01 00000019 05 00000019 00000001 000000000000000d 000000000000003f 00";
-
-/// Stream 0 after a third run: epoch 2 with (96,88) at 96, and at 121 the record of its call 1, with this vector.
-const RUN_THRICE: &str =
-    "5441555255532d4c4f472d32 0002 0000 01 0000000d 04 0000000d 7461626c6520610a \
-    01 00000019 05 00000019 00000001 000000000000000d 000000000000003f \
-    01 0000003a 01 0000003a 0000000000000001 00000000 00000003 000000000000000d 000000000000003f 0001 0000 0000000000000007 01 0000000000000001 \
-    01 00000019 05 00000019 00000002 0000000000000060 0000000000000058 \
-    01 0000003a 01 0000003a 0000000000000001 00000000 00000003 0000000000000060 0000000000000058 0001 0000 0000000000000007 01 0000000000000003 00";
-
-/// Stream 1 likewise: epoch 2 at 88.
-const RUN_THRICE_TOO: &str =
-    "5441555255532d4c4f472d32 0002 0001 01 0000000d 04 0000000d 7461626c6520610a \
-    01 00000032 01 00000032 0000000000000002 00000000 00000001 0000000000000037 0001 0000 0000000000000001 01 0000000000000007 \
-    01 00000019 05 00000019 00000001 000000000000000d 000000000000003f \
-    01 00000019 05 00000019 00000002 0000000000000060 0000000000000058 00";
-
-/// Stream 0 of two: epoch 2, and epoch 1 at 38, whose number is not above that of the one before it.
-const FALLING: &str = "5441555255532d4c4f472d32 0002 0000 01 0000000d 04 0000000d 7461626c6520610a \
-    01 00000019 05 00000019 00000002 0000000000000060 0000000000000058 \
-    01 00000019 05 00000019 00000001 000000000000000d 000000000000003f 00";
-
-/// Stream 1 of two, likewise.
-const FALLING_TOO: &str =
-    "5441555255532d4c4f472d32 0002 0001 01 0000000d 04 0000000d 7461626c6520610a \
-    01 00000019 05 00000019 00000002 0000000000000060 0000000000000058 \
-    01 00000019 05 00000019 00000001 000000000000000d 000000000000003f 00";
-
-/// Stream 0 of two: epoch 1, and epoch 2 at 38.
-const RISING: &str = "5441555255532d4c4f472d32 0002 0000 01 0000000d 04 0000000d 7461626c6520610a \
-    01 00000019 05 00000019 00000001 000000000000000d 000000000000003f \
-    01 00000019 05 00000019 00000002 0000000000000060 0000000000000058 00";
-
-static RUNS: [Row; 5] = [
-    (
-        "a log goes on once",
-        Streams::Of(&[Image::Whole(RUN_TWICE), Image::Whole(RUN_TWICE_TOO)]),
-        Found::Log(&[
-            Told::Recovers("elv 96,88\ntaken 0 38 1\nend 0\n"),
-            Told::Judges(0, &[13, 63]),
-            Told::Judges(1, &[96, 88]),
-        ]),
-    ),
-    (
-        "a log goes on twice",
-        Streams::Of(&[Image::Whole(RUN_THRICE), Image::Whole(RUN_THRICE_TOO)]),
-        Found::Log(&[
-            Told::Recovers("elv 179,113\ntaken 0 38 1\ntaken 0 121 1\nend 0\n"),
-            Told::Judges(0, &[13, 63]),
-            Told::Judges(1, &[96, 88]),
-            Told::Judges(2, &[179, 113]),
-        ]),
-    ),
-    (
-        "the greatest component below 2^62 is another one than that of stream 1",
-        Streams::Of(&[Image::Byte(RUN_TWICE, 48, 63), Image::Whole(RUN_TWICE_TOO)]),
-        Found::Bad(1, LogCause::Epoch { with: 0, number: 1 }),
-    ),
-    (
-        "numbers fall in both streams",
-        Streams::Of(&[Image::Whole(FALLING), Image::Whole(FALLING_TOO)]),
-        Found::Bad(0, LATER_BODY),
-    ),
-    (
-        "numbers fall in the second stream",
-        Streams::Of(&[Image::Whole(RISING), Image::Whole(FALLING_TOO)]),
-        Found::Bad(1, LATER_BODY),
-    ),
-];
+static RUNS: &str = "
+# a log goes on once
+scan any wide-two-runs-0 wide-two-runs-1 = recovers - > elv 96,88/taken 0 38 1/end 0/; judges 0 13,63; judges 1 96,88
+# a log goes on twice
+scan any wide-three-runs-0 wide-three-runs-1 = recovers - > elv 179,113/taken 0 38 1/taken 0 121 1/end 0/; judges 0 13,63; judges 1 96,88; judges 2 179,113
+# the greatest component below 2^62 is another one than that of stream 1
+scan any wide-two-runs-0,48=63 wide-two-runs-1 = bad 1 Epoch 0 1
+# numbers fall in both streams
+scan any wide-falling-0 wide-falling-1 = bad 0 BadBody 38
+# numbers fall in the second stream
+scan any wide-rising wide-falling-1 = bad 1 BadBody 38
+";
 
 #[test]
-fn logs_of_format_2_go_on(rt: HostRuntime) -> Result<(), Fail> {
-    are_read(&rt, rt.alloc(), None, &RUNS)
-}
-
-/// Epoch 1 of stream 0: its length, number and first component. Its kind stands in byte 39 of the image.
-static EPOCHS: [Edge; 9] = [
-    (43, 24, Some(LENGTH)),
-    (43, 26, Some(LENGTH)),
-    (43, 8, Some(LENGTH)),
-    (47, 0, Some(BODY)),
-    (47, 1, None),
-    (47, 2, None),
-    (44, 255, None),
-    (48, 64, Some(BODY)),
-    (56, 64, Some(BODY)),
-];
-
-#[test]
-fn each_cause_of_an_epoch_at_its_edge(rt: HostRuntime) -> Result<(), Fail> {
-    let second = [Image::Whole(RUN_TWICE_TOO)];
-    have_causes(&rt, rt.alloc(), RUN_TWICE, &second, &EPOCHS)
+fn logs_of_format_2_go_on(rt: HostRuntime) {
+    play(&rt, rt.alloc(), RUNS);
 }

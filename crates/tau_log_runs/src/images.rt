@@ -1,91 +1,364 @@
-//! The images that logs are read from, spelled by hand as hexadecimal digits, with spaces between the fields.
+//! The disks that logs are read from.
 use std::alloc::Global;
-use std::test::Fail;
+use tau_disk::MemDisk;
 
-/// What the disk of a stream holds.
-#[derive(Clone, Copy)]
-pub(crate) enum Image<'a> {
-    /// These digits.
-    Whole(&'a str),
-    /// The first bytes of these digits, so many.
-    Front(&'a str, usize),
-    /// These digits, with this byte in this place.
-    Byte(&'a str, usize, u8),
-    /// The same with several bytes.
-    Bytes(&'a str, &'a [(usize, u8)]),
-    /// The catalogue of `table a` alone, in the format of this digit: the number of streams, and which one it is.
-    Catalogue(u8, u8, u8),
-}
+/// Images: a name, in words what it is, and its bytes as hexadecimal digits. In the header byte 11 is the digit of the
+/// format, byte 13 the number of streams and byte 15 which one it is.
+static IMAGES: &str = "
+= nothing: No bytes.
 
-/// A stream of one: the catalogue of `table a`, and the data record of `put a 1 5`.
-pub(crate) const ONE: &str =
-    "5441555255532d4c4f472d31 0001 0000 01 0000000d 04 0000000d 7461626c6520610a \
-    01 00000028 01 00000028 0000000000000001 00000000 0000 0001 0000 0000000000000001 01 0000000000000005 00";
+= narrow-0: Stream 0 of two in format 1: the catalogue of `table a` alone.
+5441555255532d4c4f472d31 0002 0000 01 0000000d 04 0000000d 7461626c6520610a 00
 
-/// Stream 0 of two: `put a 1 5` at 13.
-pub(crate) const FIRST: &str =
-    "5441555255532d4c4f472d31 0002 0000 01 0000000d 04 0000000d 7461626c6520610a \
-    01 00000028 01 00000028 0000000000000001 00000000 0000 0001 0000 0000000000000001 01 0000000000000005 00";
+= narrow-1: Stream 1 of two in format 1: the catalogue of `table a` alone.
+5441555255532d4c4f472d31 0002 0001 01 0000000d 04 0000000d 7461626c6520610a 00
 
-/// Stream 1 of two: `put a 2 6` at 13, whose vector is (0,0).
-pub(crate) const APART: &str =
-    "5441555255532d4c4f472d31 0002 0001 01 0000000d 04 0000000d 7461626c6520610a \
-    01 00000028 01 00000028 0000000000000002 00000000 0000 0001 0000 0000000000000002 01 0000000000000006 00";
+= wide-1: Stream 1 of two in format 2: the catalogue of `table a` alone.
+5441555255532d4c4f472d32 0002 0001 01 0000000d 04 0000000d 7461626c6520610a 00
 
-/// Stream 0 of two in format 2: `put a 1 5` at 13.
-pub(crate) const WIDE: &str =
-    "5441555255532d4c4f472d32 0002 0000 01 0000000d 04 0000000d 7461626c6520610a \
-    01 0000002a 01 0000002a 0000000000000001 00000000 00000000 0001 0000 0000000000000001 01 0000000000000005 00";
+= one: A stream of one: the catalogue of `table a`, and the data record of `put a 1 5`.
+5441555255532d4c4f472d31 0001 0000 01 0000000d 04 0000000d 7461626c6520610a
+01 00000028 01 00000028 0000000000000001 00000000 0000 0001 0000 0000000000000001 01 0000000000000005 00
 
-/// Stream 0 of two in format 2: the catalogue of `table a` alone.
-const CATALOGUE: &str =
-    "5441555255532d4c4f472d32 0002 0000 01 0000000d 04 0000000d 7461626c6520610a 00";
+= first: Stream 0 of two: `put a 1 5` at 13.
+5441555255532d4c4f472d31 0002 0000 01 0000000d 04 0000000d 7461626c6520610a
+01 00000028 01 00000028 0000000000000001 00000000 0000 0001 0000 0000000000000001 01 0000000000000005 00
 
-/// The bytes of hexadecimal digits, between which there may be spaces.
-pub(crate) fn bytes_of(alloc: Global, digits: &str) -> Result<Vec<u8>, Fail> {
-    let mut bytes = Vec::new(alloc);
-    let mut high: Option<u8> = None;
-    for c in digits.chars() {
-        if let Some(digit) = c.to_digit(16) {
-            let low = digit as u8;
-            match high {
-                None => high = Some(low),
-                Some(first) => {
-                    bytes.push((first << 4) | low)?;
-                    high = None;
-                }
+= apart: Stream 1 of two: `put a 2 6` at 13, whose vector is (0,0).
+5441555255532d4c4f472d31 0002 0001 01 0000000d 04 0000000d 7461626c6520610a
+01 00000028 01 00000028 0000000000000002 00000000 0000 0001 0000 0000000000000002 01 0000000000000006 00
+
+= wide: Stream 0 of two in format 2: `put a 1 5` at 13.
+5441555255532d4c4f472d32 0002 0000 01 0000000d 04 0000000d 7461626c6520610a
+01 0000002a 01 0000002a 0000000000000001 00000000 00000000 0001 0000 0000000000000001 01 0000000000000005 00
+
+= wide-0: Stream 0 of two in format 2: the catalogue of `table a` alone.
+5441555255532d4c4f472d32 0002 0000 01 0000000d 04 0000000d 7461626c6520610a 00
+
+= second: Stream 1 of two: `add a 1 2` at 13, whose vector is (53,0).
+5441555255532d4c4f472d31 0002 0001 01 0000000d 04 0000000d 7461626c6520610a
+01 00000030 01 00000030 0000000000000002 00000000 0001 0000000000000035 0001 0000 0000000000000001 01 0000000000000007 00
+
+= other: Stream 1 of two: the catalogue of `table b`.
+5441555255532d4c4f472d31 0002 0001 01 0000000d 04 0000000d 7461626c6520620a 00
+
+= command: A stream of one: the call `put a 1 5` at 13.
+5441555255532d4c4f472d31 0001 0000 01 0000000d 04 0000000d 7461626c6520610a
+01 00000031 02 00000031 0000000000000001 00000000 0000 0000 03 01 0000000000000000 01 0000000000000001 01 0000000000000005 00
+
+= anchored: Stream 0 of three: the anchor (13,13,53) at 13, and `put a 1 5` above it at 42.
+5441555255532d4c4f472d31 0003 0000 01 0000000d 04 0000000d 7461626c6520610a
+01 00000045 03 0000001d 000000000000000d 000000000000000d 0000000000000035
+01 00000028 0000000000000001 00000001 0000 0001 0000 0000000000000001 01 0000000000000005 00
+
+= closed: A stream of one. After the catalogue a gate that reads 0, and ones to the end of the image.
+5441555255532d4c4f472d31 0001 0000 01 0000000d 04 0000000d 7461626c6520610a 00
+010101010101010101010101010101010101010101010101010101010101010101010101010101010101010101
+
+= bit-above: A stream of one. A data record with the mask 2.
+5441555255532d4c4f472d31 0001 0000 01 0000000d 04 0000000d 7461626c6520610a
+01 00000028 01 00000028 0000000000000001 00000000 0002 0001 0000 0000000000000001 01 0000000000000005 00
+
+= same-as-anchor: A stream of one. A data record whose explicit component is the 0 of no anchor.
+5441555255532d4c4f472d31 0001 0000 01 0000000d 04 0000000d 7461626c6520610a
+01 00000030 01 00000030 0000000000000001 00000000 0001 0000000000000000 0001 0000 0000000000000001 01 0000000000000005 00
+
+= no-table: A stream of one. A write of table 1.
+5441555255532d4c4f472d31 0001 0000 01 0000000d 04 0000000d 7461626c6520610a
+01 00000028 01 00000028 0000000000000001 00000000 0000 0001 0001 0000000000000001 01 0000000000000005 00
+
+= no-table-first: A stream of one. A write of table 1, and after it a record of kind 9.
+5441555255532d4c4f472d31 0001 0000 01 0000000d 04 0000000d 7461626c6520610a
+01 0000002d 01 00000028 0000000000000001 00000000 0000 0001 0001 0000000000000001 01 0000000000000005 09 00000005 00
+
+= no-table-cut: A stream of one. A write of table 1 in a record whose last field runs past its length.
+5441555255532d4c4f472d31 0001 0000 01 0000000d 04 0000000d 7461626c6520610a
+01 00000029 01 00000027 0000000000000001 00000000 0000 0001 0001 0000000000000001 01 0000000000000005 00 00
+
+= no-procedure: A stream of one. A call of procedure 4.
+5441555255532d4c4f472d31 0001 0000 01 0000000d 04 0000000d 7461626c6520610a
+01 00000016 02 00000016 0000000000000001 00000000 0000 0004 00 00
+
+= no-table-called: A stream of one. A `put` into table 1.
+5441555255532d4c4f472d31 0001 0000 01 0000000d 04 0000000d 7461626c6520610a
+01 00000031 02 00000031 0000000000000001 00000000 0000 0000 03 01 0000000000000001 01 0000000000000001 01 0000000000000005 00
+
+= too-few: A stream of one. A `get` without its row.
+5441555255532d4c4f472d31 0001 0000 01 0000000d 04 0000000d 7461626c6520610a
+01 0000001f 02 0000001f 0000000000000001 00000000 0000 0002 01 01 0000000000000000 00
+
+= not-canonical: A stream of one. A catalogue with two spaces.
+5441555255532d4c4f472d31 0001 0000 01 0000000e 04 0000000e 7461626c652020610a 00
+
+= zeros: Eighteen bytes of an image, all zero.
+000000000000000000000000000000000000
+
+= wide-two-runs-0: Stream 0 of two after a second run: epoch 1 with (13,63) at 13, and at 38 the record of its call 1, with this vector.
+5441555255532d4c4f472d32 0002 0000 01 0000000d 04 0000000d 7461626c6520610a
+01 00000019 05 00000019 00000001 000000000000000d 000000000000003f
+01 0000003a 01 0000003a 0000000000000001 00000000 00000003 000000000000000d 000000000000003f 0001 0000 0000000000000007 01 0000000000000001 00
+
+= wide-two-runs-1: Stream 1 likewise: at 13 the record of call 2 with the vector (55,0), which the first run left and (13,63) does not cover, and epoch 1 at 63.
+5441555255532d4c4f472d32 0002 0001 01 0000000d 04 0000000d 7461626c6520610a
+01 00000032 01 00000032 0000000000000002 00000000 00000001 0000000000000037 0001 0000 0000000000000001 01 0000000000000007
+01 00000019 05 00000019 00000001 000000000000000d 000000000000003f 00
+
+= wide-three-runs-0: Stream 0 after a third run: epoch 2 with (96,88) at 96, and at 121 the record of its call 1, with this vector.
+5441555255532d4c4f472d32 0002 0000 01 0000000d 04 0000000d 7461626c6520610a
+01 00000019 05 00000019 00000001 000000000000000d 000000000000003f
+01 0000003a 01 0000003a 0000000000000001 00000000 00000003 000000000000000d 000000000000003f 0001 0000 0000000000000007 01 0000000000000001
+01 00000019 05 00000019 00000002 0000000000000060 0000000000000058
+01 0000003a 01 0000003a 0000000000000001 00000000 00000003 0000000000000060 0000000000000058 0001 0000 0000000000000007 01 0000000000000003 00
+
+= wide-three-runs-1: Stream 1 likewise: epoch 2 at 88.
+5441555255532d4c4f472d32 0002 0001 01 0000000d 04 0000000d 7461626c6520610a
+01 00000032 01 00000032 0000000000000002 00000000 00000001 0000000000000037 0001 0000 0000000000000001 01 0000000000000007
+01 00000019 05 00000019 00000001 000000000000000d 000000000000003f
+01 00000019 05 00000019 00000002 0000000000000060 0000000000000058 00
+
+= wide-falling-0: Stream 0 of two: epoch 2, and epoch 1 at 38, whose number is not above that of the one before it.
+5441555255532d4c4f472d32 0002 0000 01 0000000d 04 0000000d 7461626c6520610a
+01 00000019 05 00000019 00000002 0000000000000060 0000000000000058
+01 00000019 05 00000019 00000001 000000000000000d 000000000000003f 00
+
+= wide-falling-1: Stream 1 of two, likewise.
+5441555255532d4c4f472d32 0002 0001 01 0000000d 04 0000000d 7461626c6520610a
+01 00000019 05 00000019 00000002 0000000000000060 0000000000000058
+01 00000019 05 00000019 00000001 000000000000000d 000000000000003f 00
+
+= wide-rising: Stream 0 of two: epoch 1, and epoch 2 at 38.
+5441555255532d4c4f472d32 0002 0000 01 0000000d 04 0000000d 7461626c6520610a
+01 00000019 05 00000019 00000001 000000000000000d 000000000000003f
+01 00000019 05 00000019 00000002 0000000000000060 0000000000000058 00
+
+= wide-command: Stream 0 of two in format 2: the call `put a 1 5` at 13.
+5441555255532d4c4f472d32 0002 0000 01 0000000d 04 0000000d 7461626c6520610a
+01 00000033 02 00000033 0000000000000001 00000000 00000000 0000 03 01 0000000000000000 01 0000000000000001 01 0000000000000005 00
+
+= seventeen: Stream 0 of 17 in format 2: `put a 1 5` at 13, whose vector has 13 for stream 16.
+5441555255532d4c4f472d32 0011 0000 01 0000000d 04 0000000d 7461626c6520610a
+01 00000032 01 00000032 0000000000000001 00000000 00010000 000000000000000d 0001 0000 0000000000000001 01 0000000000000005 00
+
+= unborn: The header of stream 0 of two in format 2 and an open gate, which is no more than an unborn stream has.
+5441555255532d4c4f472d32 0002 0000 01
+
+= two-runs-0: Stream 0 of two: epoch 1 with (13,61) at 13, and at 38 the record of a call with number 1, whose vector is (13,61).
+5441555255532d4c4f472d31 0002 0000 01 0000000d 04 0000000d 7461626c6520610a
+01 00000019 05 00000019 00000001 000000000000000d 000000000000003d
+01 00000038 01 00000038 0000000000000001 00000000 0003 000000000000000d 000000000000003d 0001 0000 0000000000000007 01 0000000000000001 00
+
+= two-runs-1: Stream 1 of two: at 13 a record whose vector is (53,0), which the first run left and (13,61) does not cover, and epoch 1 at 61.
+5441555255532d4c4f472d31 0002 0001 01 0000000d 04 0000000d 7461626c6520610a
+01 00000030 01 00000030 0000000000000002 00000000 0001 0000000000000035 0001 0000 0000000000000001 01 0000000000000007
+01 00000019 05 00000019 00000001 000000000000000d 000000000000003d 00
+
+= three-runs-0: Stream 0 after one more run: epoch 2 with (94,86) at 94, and at 119 the record of a call with number 1, whose vector is (94,86).
+5441555255532d4c4f472d31 0002 0000 01 0000000d 04 0000000d 7461626c6520610a
+01 00000019 05 00000019 00000001 000000000000000d 000000000000003d
+01 00000038 01 00000038 0000000000000001 00000000 0003 000000000000000d 000000000000003d 0001 0000 0000000000000007 01 0000000000000001
+01 00000019 05 00000019 00000002 000000000000005e 0000000000000056
+01 00000038 01 00000038 0000000000000001 00000000 0003 000000000000005e 0000000000000056 0001 0000 0000000000000007 01 0000000000000003 00
+
+= three-runs-1: Stream 1 likewise: epoch 2 at 86.
+5441555255532d4c4f472d31 0002 0001 01 0000000d 04 0000000d 7461626c6520610a
+01 00000030 01 00000030 0000000000000002 00000000 0001 0000000000000035 0001 0000 0000000000000001 01 0000000000000007
+01 00000019 05 00000019 00000001 000000000000000d 000000000000003d
+01 00000019 05 00000019 00000002 000000000000005e 0000000000000056 00
+
+= other-vector-1: Stream 1 of two: epoch 1 with (13,60), and epoch 2 with (13,60).
+5441555255532d4c4f472d31 0002 0001 01 0000000d 04 0000000d 7461626c6520610a
+01 00000019 05 00000019 00000001 000000000000000d 000000000000003c
+01 00000019 05 00000019 00000002 000000000000000d 000000000000003c 00
+
+= falling: Stream 0 of two: epoch 2, and epoch 1 at 38.
+5441555255532d4c4f472d31 0002 0000 01 0000000d 04 0000000d 7461626c6520610a
+01 00000019 05 00000019 00000002 000000000000000d 000000000000000d
+01 00000019 05 00000019 00000001 000000000000000d 000000000000000d 00
+
+= other-table: Stream 1 of two: the catalogue of another table, and epoch 1 with (13,60) at 13.
+5441555255532d4c4f472d31 0002 0001 01 0000000d 04 0000000d 7461626c6520620a
+01 00000019 05 00000019 00000001 000000000000000d 000000000000003c 00
+
+= three-high: Stream 1 of three: epoch 4294967295 with (13,13,13).
+5441555255532d4c4f472d31 0003 0001 01 0000000d 04 0000000d 7461626c6520610a
+01 00000021 05 00000021 ffffffff 000000000000000d 000000000000000d 000000000000000d 00
+
+= three-other: Stream 2 of three: the same epoch with (13,14,13).
+5441555255532d4c4f472d31 0003 0002 01 0000000d 04 0000000d 7461626c6520610a
+01 00000021 05 00000021 ffffffff 000000000000000d 000000000000000e 000000000000000d 00
+
+= other-vector-0: Stream 0 of two: epoch 1 with (13,61), and epoch 2 with (13,61).
+5441555255532d4c4f472d31 0002 0000 01 0000000d 04 0000000d 7461626c6520610a
+01 00000019 05 00000019 00000001 000000000000000d 000000000000003d
+01 00000019 05 00000019 00000002 000000000000000d 000000000000003d 00
+
+= catalogue-content: The catalogue of `table a` alone.
+04 0000000d 7461626c6520610a
+
+= wide-content: The two records of stream 0 in format 2, behind its gates at 16 and 34; a closed gate stands at 81.
+04 0000000d 7461626c6520610a
+01 0000002a 0000000000000001 00000000 00000000 0001 0000 0000000000000001 01 0000000000000005
+
+= apart-content: The two records of stream 1 in format 1, behind its gates at 16 and 34; a closed gate stands at 79.
+04 0000000d 7461626c6520610a
+01 00000028 0000000000000002 00000000 0000 0001 0000 0000000000000002 01 0000000000000006
+
+= waiting: Stream 0 of two: `put a 1 5` with vector (0,53) at 13, and `put a 3 7` with vector (0,0) at 61.
+5441555255532d4c4f472d31 0002 0000 01 0000000d 04 0000000d 7461626c6520610a
+01 00000058 01 00000030 0000000000000001 00000000 0002 0000000000000035 0001 0000 0000000000000001 01 0000000000000005
+01 00000028 0000000000000003 00000000 0000 0001 0000 0000000000000003 01 0000000000000007 00
+
+= tangled-0: Stream 0 of two: a record at 13 that waits for the end of the other stream.
+5441555255532d4c4f472d31 0002 0000 01 0000000d 04 0000000d 7461626c6520610a
+01 00000030 01 00000030 0000000000000001 00000000 0002 000000000000003d 0001 0000 0000000000000001 01 0000000000000005 00
+
+= tangled-1: Stream 1 of two: likewise.
+5441555255532d4c4f472d31 0002 0001 01 0000000d 04 0000000d 7461626c6520610a
+01 00000030 01 00000030 0000000000000002 00000000 0001 000000000000003d 0001 0000 0000000000000002 01 0000000000000006 00
+";
+
+/// The digits of the image with this name.
+fn digits_of(name: &str) -> Option<&'static str> {
+    for image in IMAGES.split("\n= ") {
+        if let Some((head, digits)) = image.split_once('\n') {
+            if head.split(": ").next() == Some(name) {
+                return Some(digits);
             }
         }
     }
-    Ok(bytes)
+    None
 }
 
-fn front(alloc: Global, digits: &str, size: usize) -> Result<Vec<u8>, Fail> {
-    let mut bytes = bytes_of(alloc, digits)?;
-    bytes.truncate(size);
-    Ok(bytes)
-}
-
-fn changed(alloc: Global, digits: &str, changes: &[(usize, u8)]) -> Result<Vec<u8>, Fail> {
-    let mut bytes = bytes_of(alloc, digits)?;
-    for (at, byte) in changes {
-        if *at >= bytes.len() {
-            return Err(Fail::from("no such byte"));
-        }
-        bytes[*at] = *byte;
-    }
-    Ok(bytes)
-}
-
-/// The bytes of an image.
-pub(crate) fn image_of(alloc: Global, image: &Image<'_>) -> Result<Vec<u8>, Fail> {
-    match image {
-        Image::Whole(digits) => bytes_of(alloc, digits),
-        Image::Front(digits, size) => front(alloc, digits, *size),
-        Image::Byte(digits, at, byte) => changed(alloc, digits, &[(*at, *byte)]),
-        Image::Bytes(digits, changes) => changed(alloc, digits, changes),
-        Image::Catalogue(digit, n, j) => {
-            changed(alloc, CATALOGUE, &[(11, *digit), (13, *n), (15, *j)])
+/// Puts the bytes of hexadecimal digits last, between which there may be spaces and ends of lines.
+fn put_digits(bytes: &mut Vec<u8>, digits: &str) -> bool {
+    let mut high: Option<u8> = None;
+    for c in digits.chars() {
+        let Some(digit) = c.to_digit(16) else {
+            if c == ' ' || c == '\n' {
+                continue;
+            }
+            return false;
+        };
+        let low = digit as u8;
+        match high {
+            None => high = Some(low),
+            Some(first) => {
+                if bytes.push((first << 4) | low).is_err() {
+                    return false;
+                }
+                high = None;
+            }
         }
     }
+    high.is_none()
+}
+
+fn set(bytes: &mut [u8], at: usize, byte: u8) -> bool {
+    if at >= bytes.len() {
+        return false;
+    }
+    bytes[at] = byte;
+    true
+}
+
+/// Changes an image: `front=17` leaves its first 17 bytes, `39=9` makes byte 39 a 9.
+fn change(bytes: &mut Vec<u8>, word: &str) -> bool {
+    match word.split_once('=') {
+        Some(("front", size)) => match size.parse::<usize>() {
+            Ok(size) => {
+                bytes.truncate(size);
+                true
+            }
+            Err(_) => false,
+        },
+        Some((at, byte)) => match (at.parse::<usize>(), byte.parse::<u8>()) {
+            (Ok(at), Ok(byte)) => set(bytes.as_mut_slice(), at, byte),
+            _ => false,
+        },
+        None => false,
+    }
+}
+
+/// Puts the bytes of an image last: a name, and changes after commas.
+pub(crate) fn put_image(bytes: &mut Vec<u8>, word: &str) -> bool {
+    let mut parts = word.split(',');
+    let Some(name) = parts.next() else {
+        return false;
+    };
+    let Some(digits) = digits_of(name) else {
+        return false;
+    };
+    if !put_digits(bytes, digits) {
+        return false;
+    }
+    for part in parts {
+        if !change(bytes, part) {
+            return false;
+        }
+    }
+    true
+}
+
+fn put_disk(alloc: Global, disks: &mut Vec<MemDisk>, bytes: &[u8]) -> bool {
+    match MemDisk::of_image(alloc, bytes) {
+        Ok(disk) => disks.push(disk).is_ok(),
+        Err(_) => false,
+    }
+}
+
+/// Puts a disk with the catalogue of `table a` in format 2 last, of stream `j` of `n`.
+fn put_other(alloc: Global, disks: &mut Vec<MemDisk>, n: u8, j: u8) -> bool {
+    let mut bytes = Vec::new(alloc);
+    put_image(&mut bytes, "wide-0")
+        && set(bytes.as_mut_slice(), 13, n)
+        && set(bytes.as_mut_slice(), 15, j)
+        && put_disk(alloc, disks, bytes.as_slice())
+}
+
+fn put_others(alloc: Global, disks: &mut Vec<MemDisk>, n: u8) -> bool {
+    for j in 1..n {
+        if !put_other(alloc, disks, n, j) {
+            return false;
+        }
+    }
+    true
+}
+
+/// Puts an empty disk last, whose call of this number fails.
+fn put_failing(alloc: Global, disks: &mut Vec<MemDisk>, call: u32) -> bool {
+    match MemDisk::new(alloc, &[call]) {
+        Ok(disk) => disks.push(disk).is_ok(),
+        Err(_) => false,
+    }
+}
+
+fn put_of_image(alloc: Global, disks: &mut Vec<MemDisk>, word: &str) -> bool {
+    let mut bytes = Vec::new(alloc);
+    put_image(&mut bytes, word) && put_disk(alloc, disks, bytes.as_slice())
+}
+
+/// Puts what a word says last: an image, `fails=2` for an empty disk whose call 2 fails, or `others=17` for all streams of
+/// 17 but the first, each with the catalogue alone.
+fn put(alloc: Global, disks: &mut Vec<MemDisk>, word: &str) -> bool {
+    match word.split_once('=') {
+        Some(("fails", call)) => match call.parse::<u32>() {
+            Ok(call) => put_failing(alloc, disks, call),
+            Err(_) => false,
+        },
+        Some(("others", n)) => match n.parse::<u8>() {
+            Ok(n) => put_others(alloc, disks, n),
+            Err(_) => false,
+        },
+        _ => put_of_image(alloc, disks, word),
+    }
+}
+
+/// Puts the disks of these words last.
+pub(crate) fn put_disks(alloc: Global, disks: &mut Vec<MemDisk>, words: &str) -> bool {
+    for word in words.split(' ') {
+        if !put(alloc, disks, word) {
+            return false;
+        }
+    }
+    true
 }

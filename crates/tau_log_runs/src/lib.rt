@@ -12,9 +12,13 @@ mod images;
 #[cfg(test)]
 mod logs;
 #[cfg(test)]
+mod play;
+#[cfg(test)]
 mod pool;
 #[cfg(test)]
 mod report;
+#[cfg(test)]
+mod reports;
 #[cfg(test)]
 mod scan;
 #[cfg(test)]

@@ -1,164 +1,26 @@
-//! Tables of logs that are read, and what is found in each.
+//! Logs that are read, and what is told of each.
 ghost use Rattle.std.specs.Prelude.{◌≡◌, ◌≤◌, IsTrue, Some};
 ghost use Rattle.tau_base.specs.Modes.{most_streams};
 
-use crate::images::{Image, image_of};
+use crate::images::{put_disks, put_image};
+use crate::play::{are_lines, are_numbers};
+use crate::reports::tables_of;
 use std::alloc::Global;
-use std::process::Abort;
-use std::test::*;
 use tau_base::{Format, most_streams};
-use tau_block::ImageFault;
+use tau_block::{Content, ImageFault};
 use tau_disk::MemDisk;
 use tau_model::Tables;
 use tau_record::{RecordCause, RecordFault};
-use tau_report::recover_text;
-use tau_scan::{Judge, Log, LogCause, LogFault, ScanRefusal, scan};
+use tau_report::{put_recovery, recover_text};
+use tau_scan::{Judge, Log, LogCause, LogFault, ScanRefusal, scan, scan_contents};
 
-/// What a log is read from.
-#[derive(Clone, Copy)]
-pub(crate) enum Streams {
-    /// Streams with these images.
-    Of(&'static [Image<'static>]),
-    /// So many streams, of which the first has this image and the others the catalogue alone, in format 2.
-    Many(u8, Image<'static>),
-    /// A stream of one with the first bytes of these digits, so many.
-    Front(&'static str, usize),
-    /// Three streams: the first has these bytes, and the disks of the others fail at their calls of these numbers.
-    Failing(&'static str, u32, u32),
-}
-
-/// What is told of a log.
-#[derive(Clone, Copy)]
-pub(crate) enum Told {
-    /// Where its streams end.
-    Ends(&'static [u64]),
-    /// Which of the first records of a stream are taken.
-    Takes(u8, &'static [bool]),
-    /// How many tables are declared.
-    Tables(usize),
-    /// What recovery tells of it without any row.
-    Recovers(&'static str),
-    /// The vector against which the records of the epoch with this number are judged.
-    Judges(u32, &'static [u64]),
-}
-
-/// What is found.
-#[derive(Clone, Copy)]
-pub(crate) enum Found {
-    /// A log of which this is told.
-    Log(&'static [Told]),
-    /// No log, since this stream is bad.
-    Bad(u8, LogCause),
-    /// No log, since the disk of this stream failed.
-    Failed(u8),
-}
-
-/// A row of a table: in words what it is, what is read, and what is found.
-pub(crate) type Row = (&'static str, Streams, Found);
-
-/// Where a byte of an image is changed, to what, and the cause that is then found in its stream, if one is.
-pub(crate) type Edge = (usize, u8, Option<LogCause>);
-
-/// Causes of the first record, the catalogue.
-pub(crate) const FIRST_KIND: LogCause = LogCause::Body(RecordFault {
-    at: 0,
-    cause: RecordCause::BadKind,
-});
-
-pub(crate) const FIRST_BODY: LogCause = LogCause::Body(RecordFault {
-    at: 0,
-    cause: RecordCause::BadBody,
-});
-
-/// Causes of the record after it.
-pub(crate) const SHORT: LogCause = LogCause::Body(RecordFault {
-    at: 13,
-    cause: RecordCause::Short,
-});
-
-pub(crate) const KIND: LogCause = LogCause::Body(RecordFault {
-    at: 13,
-    cause: RecordCause::BadKind,
-});
-
-pub(crate) const LENGTH: LogCause = LogCause::Body(RecordFault {
-    at: 13,
-    cause: RecordCause::BadLength,
-});
-
-pub(crate) const ANCHOR: LogCause = LogCause::Body(RecordFault {
-    at: 13,
-    cause: RecordCause::BadAnchor,
-});
-
-pub(crate) const MASK: LogCause = LogCause::Body(RecordFault {
-    at: 13,
-    cause: RecordCause::BadMask,
-});
-
-pub(crate) const BODY: LogCause = LogCause::Body(RecordFault {
-    at: 13,
-    cause: RecordCause::BadBody,
-});
-
-/// A record at 38 is none.
-pub(crate) const LATER_BODY: LogCause = LogCause::Body(RecordFault {
-    at: 38,
-    cause: RecordCause::BadBody,
-});
-
-/// Causes of images.
-pub(crate) const MAGIC: LogCause = LogCause::Image(ImageFault::BadMagic);
-
-pub(crate) const COUNT: LogCause = LogCause::Image(ImageFault::BadCount);
-
-pub(crate) const INDEX: LogCause = LogCause::Image(ImageFault::BadIndex);
-
-pub(crate) const GATE: LogCause = LogCause::Image(ImageFault::OpenGateWithoutBlock);
-
-/// Puts a disk with this image last.
-fn put_disk(alloc: Global, disks: &mut Vec<MemDisk>, image: &Image<'_>) -> Result<(), Fail> {
-    let bytes = image_of(alloc, image)?;
-    disks.push(MemDisk::of_image(alloc, bytes.as_slice())?)?;
-    Ok(())
-}
-
-fn put_disks(alloc: Global, disks: &mut Vec<MemDisk>, images: &[Image<'_>]) -> Result<(), Fail> {
-    for image in images {
-        put_disk(alloc, disks, image)?;
-    }
-    Ok(())
-}
-
-pub(crate) fn disks_of(alloc: Global, images: &[Image<'_>]) -> Result<Vec<MemDisk>, Fail> {
-    let mut disks = Vec::new(alloc);
-    put_disks(alloc, &mut disks, images)?;
-    Ok(disks)
-}
-
-fn many(alloc: Global, n: u8, first: &Image<'_>) -> Result<Vec<MemDisk>, Fail> {
-    let mut disks = Vec::new(alloc);
-    put_disk(alloc, &mut disks, first)?;
-    for j in 1..n {
-        put_disk(alloc, &mut disks, &Image::Catalogue(b'2', n, j))?;
-    }
-    Ok(disks)
-}
-
-fn failing(alloc: Global, first: &str, second: u32, third: u32) -> Result<Vec<MemDisk>, Fail> {
-    let mut disks = Vec::new(alloc);
-    put_disk(alloc, &mut disks, &Image::Whole(first))?;
-    disks.push(MemDisk::new(alloc, &[second])?)?;
-    disks.push(MemDisk::new(alloc, &[third])?)?;
-    Ok(disks)
-}
-
-fn streams_of(alloc: Global, streams: &Streams) -> Result<Vec<MemDisk>, Fail> {
-    match streams {
-        Streams::Of(images) => disks_of(alloc, images),
-        Streams::Front(digits, size) => disks_of(alloc, &[Image::Front(digits, *size)]),
-        Streams::Many(n, first) => many(alloc, *n, first),
-        Streams::Failing(first, second, third) => failing(alloc, first, *second, *third),
+/// The format that is asked, or `any`.
+fn asked_of(word: &str) -> Option<Option<Format>> {
+    match word {
+        "any" => Some(None),
+        "1" => Some(Some(Format::One)),
+        "2" => Some(Some(Format::Two)),
+        _ => None,
     }
 }
 
@@ -172,136 +34,272 @@ fn has_room(asked: Option<Format>, count: usize) -> bool
     }
 }
 
-/// What these disks hold together, or why there is no log, when a format is asked that has room for them, or none.
-fn read(
-    alloc: Global,
-    disks: &mut [MemDisk],
-    asked: Option<Format>,
-) -> Result<Result<Log, ScanRefusal>, Fail> {
-    if disks.is_empty() || disks.len() > 32 || !has_room(asked, disks.len()) {
-        return Err(Fail::from("no number of streams"));
-    }
-    Ok(scan(alloc, disks, asked))
-}
-
-/// Checks a vector.
-pub(crate) fn is_vector(rt: &impl Abort, name: &str, found: &[u64], wanted: &[u64]) {
-    assert_eq!(rt; found, wanted, "{name}");
-}
-
-fn takes(rt: &impl Abort, name: &str, log: &Log, stream: u8, taken: &[bool]) {
-    for (index, is_taken) in taken.iter().enumerate() {
-        assert_eq!(rt;
-            log.taken(stream, index),
-            *is_taken,
-            "{name}: record {index} of stream {stream}"
-        );
+fn image_cause(word: &str) -> Option<ImageFault> {
+    match word {
+        "BadMagic" => Some(ImageFault::BadMagic),
+        "BadCount" => Some(ImageFault::BadCount),
+        "BadIndex" => Some(ImageFault::BadIndex),
+        "OpenGateWithoutBlock" => Some(ImageFault::OpenGateWithoutBlock),
+        _ => None,
     }
 }
 
-fn recovers(
-    rt: &impl Abort,
-    alloc: Global,
-    name: &str,
-    log: &Log,
-    wanted: &str,
-) -> Result<(), Fail> {
-    let text = recover_text(alloc, log, &Tables::of(Vec::new(alloc)))?;
-    assert_eq!(rt; text.as_slice(), wanted.as_bytes(), "{name}");
-    Ok(())
-}
-
-/// Checks what is told of a log.
-fn tells(rt: &impl Abort, alloc: Global, name: &str, log: &Log, told: &Told) -> Result<(), Fail> {
-    match told {
-        Told::Ends(ends) => is_vector(rt, name, log.elv.as_slice(), ends),
-        Told::Takes(stream, taken) => takes(rt, name, log, *stream, taken),
-        Told::Tables(count) => assert_eq!(rt; log.declarations.tables.len(), *count, "{name}"),
-        Told::Recovers(wanted) => return recovers(rt, alloc, name, log, wanted),
-        Told::Judges(number, wanted) => {
-            let judge = Judge::of(alloc, log)?;
-            is_vector(rt, name, judge.vector(*number).as_slice(), wanted);
-        }
+fn record_cause(word: &str) -> Option<RecordCause> {
+    match word {
+        "Short" => Some(RecordCause::Short),
+        "BadKind" => Some(RecordCause::BadKind),
+        "BadLength" => Some(RecordCause::BadLength),
+        "BadAnchor" => Some(RecordCause::BadAnchor),
+        "BadMask" => Some(RecordCause::BadMask),
+        "BadBody" => Some(RecordCause::BadBody),
+        _ => None,
     }
-    Ok(())
 }
 
-fn refusal_of(found: &Found) -> Option<ScanRefusal> {
-    match found {
-        Found::Log(_) => None,
-        Found::Bad(stream, cause) => Some(ScanRefusal::Bad(LogFault {
-            stream: *stream,
-            cause: *cause,
+/// A cause that has two numbers.
+fn cause_of_two(word: &str, first: u8, second: u32) -> Option<LogCause> {
+    match word {
+        "Format" => Some(LogCause::Format {
+            asked: first,
+            found: u8::try_from(second).ok()?,
+        }),
+        "Count" => Some(LogCause::Count {
+            asked: u16::from(first),
+            found: u16::try_from(second).ok()?,
+        }),
+        "Catalogue" => Some(LogCause::Catalogue {
+            with: first,
+            at: second,
+        }),
+        "Epoch" => Some(LogCause::Epoch {
+            with: first,
+            number: second,
+        }),
+        _ => None,
+    }
+}
+
+/// A cause: that of an image alone, that of a record with its place, any other with two numbers.
+fn cause_of(text: &str) -> Option<LogCause> {
+    let mut words = text.split(' ');
+    match (words.next(), words.next(), words.next(), words.next()) {
+        (Some(word), None, _, _) => Some(LogCause::Image(image_cause(word)?)),
+        (Some(word), Some(at), None, _) => Some(LogCause::Body(RecordFault {
+            at: at.parse::<u64>().ok()?,
+            cause: record_cause(word)?,
         })),
-        Found::Failed(stream) => Some(ScanRefusal::Failed { stream: *stream }),
+        (Some(word), Some(first), Some(second), None) => {
+            cause_of_two(word, first.parse::<u8>().ok()?, second.parse::<u32>().ok()?)
+        }
+        _ => None,
     }
 }
 
-/// Checks what is found.
-fn finds(
-    rt: &impl Abort,
-    alloc: Global,
-    name: &str,
-    read: &Result<Log, ScanRefusal>,
-    found: &Found,
-) -> Result<(), Fail> {
-    let refusal = match read {
-        Ok(_) => None,
-        Err(refusal) => Some(*refusal),
-    };
-    assert_eq!(rt; refusal, refusal_of(found), "{name}");
-    if let (Ok(log), Found::Log(list)) = (read, found) {
-        for told in *list {
-            tells(rt, alloc, name, log, told)?;
+/// Why there is no log: `failed`, a stream, or `bad`, a stream and a cause.
+fn refusal_of(told: &str) -> Option<ScanRefusal> {
+    let (word, rest) = told.split_once(' ')?;
+    if word == "failed" {
+        let stream = rest.parse::<u8>().ok()?;
+        return Some(ScanRefusal::Failed { stream });
+    }
+    if word != "bad" {
+        return None;
+    }
+    let (stream, cause) = rest.split_once(' ')?;
+    Some(ScanRefusal::Bad(LogFault {
+        stream: stream.parse::<u8>().ok()?,
+        cause: cause_of(cause)?,
+    }))
+}
+
+/// Which of the first records of a stream are taken, a sign each.
+fn takes(log: &Log, stream: u8, signs: &str) -> bool {
+    for (index, sign) in signs.chars().enumerate() {
+        if sign != '+' && sign != '-' || log.taken(stream, index) != (sign == '+') {
+            return false;
         }
     }
-    Ok(())
+    !signs.is_empty()
 }
 
-/// Checks each row of a table when this format is asked, or none.
-pub(crate) fn are_read(
-    rt: &impl Abort,
-    alloc: Global,
-    asked: Option<Format>,
-    rows: &[Row],
-) -> Result<(), Fail> {
-    for (name, streams, found) in rows {
-        let mut disks = streams_of(alloc, streams)?;
-        let read = read(alloc, disks.as_mut_slice(), asked)?;
-        finds(rt, alloc, name, &read, found)?;
-    }
-    Ok(())
-}
-
-fn cause_of(read: &Result<Log, ScanRefusal>) -> Result<Option<(u8, LogCause)>, Fail> {
-    match read {
-        Ok(_) => Ok(None),
-        Err(ScanRefusal::Bad(fault)) => Ok(Some((fault.stream, fault.cause))),
-        Err(_) => Err(Fail::from("not read")),
+/// The vector against which the records of the epoch with this number are judged.
+fn judges(alloc: Global, log: &Log, number: u32, positions: &str) -> bool {
+    match Judge::of(alloc, log) {
+        Ok(judge) => are_numbers(judge.vector(number).as_slice(), positions),
+        Err(_) => false,
     }
 }
 
-fn in_first(cause: Option<LogCause>) -> Option<(u8, LogCause)> {
-    match cause {
-        Some(cause) => Some((0, cause)),
-        None => None,
+fn is_recovered(alloc: Global, log: &Log, tables: &Tables, text: &str) -> bool {
+    match recover_text(alloc, log, tables) {
+        Ok(found) => are_lines(found.as_slice(), text),
+        Err(_) => false,
     }
 }
 
-/// Checks that each change of the first image, beside these others, has its cause.
-pub(crate) fn have_causes(
-    rt: &impl Abort,
-    alloc: Global,
-    first: &str,
-    others: &[Image<'_>],
-    edges: &[Edge],
-) -> Result<(), Fail> {
-    for (at, byte, cause) in edges {
-        let mut disks = Vec::new(alloc);
-        put_disk(alloc, &mut disks, &Image::Byte(first, *at, *byte))?;
-        put_disks(alloc, &mut disks, others)?;
-        let found = cause_of(&read(alloc, disks.as_mut_slice(), None)?)?;
-        assert_eq!(rt; found, in_first(*cause), "byte {at} set to {byte}");
+/// The same after a line that was there.
+fn is_put(alloc: Global, log: &Log, tables: &Tables, text: &str) -> bool {
+    let Ok(mut found) = Vec::from_slice(alloc, b"base 1\n") else {
+        return false;
+    };
+    if put_recovery(alloc, &mut found, log, tables).is_err() {
+        return false;
     }
-    Ok(())
+    match found.as_slice().strip_prefix(b"base 1\n") {
+        Some(rest) => are_lines(rest, text),
+        None => false,
+    }
+}
+
+/// What recovery tells of a log, where redoing it gives these rows.
+fn recovers(alloc: Global, log: &Log, rows: &str, text: &str) -> bool {
+    match tables_of(alloc, rows) {
+        Some(tables) => is_recovered(alloc, log, &tables, text)
+            && is_put(alloc, log, &tables, text),
+        None => false,
+    }
+}
+
+/// What is told of one stream, or of an epoch.
+fn tells_of(alloc: Global, log: &Log, word: &str, number: u32, rest: &str) -> bool {
+    match (word, u8::try_from(number)) {
+        ("judges", _) => judges(alloc, log, number, rest),
+        ("takes", Ok(stream)) => takes(log, stream, rest),
+        _ => false,
+    }
+}
+
+fn tells(alloc: Global, log: &Log, told: &str) -> bool {
+    match told.split_once(' ') {
+        None => told == "log",
+        Some(("ends", ends)) => are_numbers(log.elv.as_slice(), ends),
+        Some(("tables", count)) => count.parse::<usize>() == Ok(log.declarations.tables.len()),
+        Some(("recovers", rest)) => match rest.split_once(" > ") {
+            Some((rows, text)) => recovers(alloc, log, rows, text),
+            None => false,
+        },
+        Some((word, rest)) => match rest.split_once(' ') {
+            Some((number, rest)) => match number.parse::<u32>() {
+                Ok(number) => tells_of(alloc, log, word, number, rest),
+                Err(_) => false,
+            },
+            None => false,
+        },
+    }
+}
+
+fn tells_all(alloc: Global, log: &Log, told: &str) -> bool {
+    for one in told.split("; ") {
+        if !tells(alloc, log, one) {
+            return false;
+        }
+    }
+    true
+}
+
+/// Whether this is found in disks when a format is asked that has room for them, or none.
+fn finds(alloc: Global, disks: &mut [MemDisk], asked: Option<Format>, told: &str) -> bool {
+    if disks.is_empty() || disks.len() > 32 || !has_room(asked, disks.len()) {
+        return false;
+    }
+    match scan(alloc, disks, asked) {
+        Ok(log) => tells_all(alloc, &log, told),
+        Err(refusal) => refusal_of(told) == Some(refusal),
+    }
+}
+
+fn is_found(alloc: Global, asked: &str, images: &str, told: &str) -> bool {
+    let Some(asked) = asked_of(asked) else {
+        return false;
+    };
+    let mut disks = Vec::new(alloc);
+    put_disks(alloc, &mut disks, images) && finds(alloc, disks.as_mut_slice(), asked, told)
+}
+
+/// Whether this is told of a log, with each format that is asked.
+pub(crate) fn is_scanned(alloc: Global, given: &str, told: &str) -> bool {
+    let Some((asked, images)) = given.split_once(' ') else {
+        return false;
+    };
+    for format in asked.split(',') {
+        if !is_found(alloc, format, images, told) {
+            return false;
+        }
+    }
+    true
+}
+
+/// Whether a stream of two has this content: the format of a born one, where the closed gate stands, and the bytes.
+fn is_content(alloc: Global, content: &Content, text: &str) -> bool {
+    let mut words = text.split(':');
+    let (Some(format), Some(gate), Some(image), None) = (
+        words.next(),
+        words.next(),
+        words.next(),
+        words.next(),
+    ) else {
+        return false;
+    };
+    let (format, count) = match format {
+        "-" => (None, None),
+        "1" => (Some(Format::One), Some(2)),
+        "2" => (Some(Format::Two), Some(2)),
+        _ => return false,
+    };
+    let mut bytes = Vec::new(alloc);
+    put_image(&mut bytes, image)
+        && content.format == format
+        && content.count == count
+        && gate.parse::<u64>() == Ok(content.gate_at)
+        && content.bytes.as_slice() == bytes.as_slice()
+}
+
+fn are_contents(alloc: Global, contents: &[Content], text: &str) -> bool {
+    let mut count = 0;
+    for word in text.split(',') {
+        if count >= contents.len() || !is_content(alloc, &contents[count], word) {
+            return false;
+        }
+        count += 1;
+    }
+    count == contents.len()
+}
+
+/// Where the streams end, and what each holds.
+fn holds(alloc: Global, log: &Log, contents: &[Content], told: &str) -> bool {
+    match told.split_once("; each ") {
+        Some((ends, each)) => tells(alloc, log, ends) && are_contents(alloc, contents, each),
+        None => false,
+    }
+}
+
+fn reads(alloc: Global, disks: &mut [MemDisk], asked: Option<Format>, told: &str) -> bool {
+    if disks.is_empty() || disks.len() > 16 {
+        return false;
+    }
+    match scan_contents(alloc, disks, asked) {
+        Ok((log, contents)) => holds(alloc, &log, contents.as_slice(), told),
+        Err(_) => false,
+    }
+}
+
+fn is_read(alloc: Global, asked: &str, images: &str, told: &str) -> bool {
+    let Some(asked) = asked_of(asked) else {
+        return false;
+    };
+    let mut disks = Vec::new(alloc);
+    put_disks(alloc, &mut disks, images) && reads(alloc, disks.as_mut_slice(), asked, told)
+}
+
+/// Whether a log has these contents, with each format that is asked.
+pub(crate) fn is_contained(alloc: Global, given: &str, told: &str) -> bool {
+    let Some((asked, images)) = given.split_once(' ') else {
+        return false;
+    };
+    for format in asked.split(',') {
+        if !is_read(alloc, format, images, told) {
+            return false;
+        }
+    }
+    true
 }

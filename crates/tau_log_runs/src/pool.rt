@@ -1,29 +1,13 @@
 ghost use Rattle.std.specs.Prelude.{IfOk};
 ghost use Rattle.tau_scan.specs.Reading.{IsLog};
 
-use crate::epochs::{FIRST_AGAIN, SECOND_AGAIN};
-use crate::images::{APART, Image};
-use crate::logs::disks_of;
+use crate::images::put_disks;
 use std::alloc::Global;
 use std::process::Abort;
 use std::test::*;
 use tau_disk::MemDisk;
 use tau_pool::{Next, Pools};
 use tau_scan::{Log, scan};
-
-/// Stream 0 of two: `put a 1 5` with vector (0,53) at 13, and `put a 3 7` with vector (0,0) at 61.
-const FIRST: &str = "5441555255532d4c4f472d31 0002 0000 01 0000000d 04 0000000d 7461626c6520610a \
-    01 00000058 01 00000030 0000000000000001 00000000 0002 0000000000000035 0001 0000 0000000000000001 01 0000000000000005 \
-    01 00000028 0000000000000003 00000000 0000 0001 0000 0000000000000003 01 0000000000000007 00";
-
-/// Stream 0 of two: a record at 13 that waits for the end of the other stream.
-const TANGLED: &str = "5441555255532d4c4f472d31 0002 0000 01 0000000d 04 0000000d 7461626c6520610a \
-    01 00000030 01 00000030 0000000000000001 00000000 0002 000000000000003d 0001 0000 0000000000000001 01 0000000000000005 00";
-
-/// Stream 1 of two: likewise.
-const TANGLED_TOO: &str =
-    "5441555255532d4c4f472d31 0002 0001 01 0000000d 04 0000000d 7461626c6520610a \
-    01 00000030 01 00000030 0000000000000002 00000000 0001 000000000000003d 0001 0000 0000000000000002 01 0000000000000006 00";
 
 /// The log of these disks.
 fn log_of(alloc: Global, disks: &mut [MemDisk]) -> Result<Log, Fail>
@@ -38,9 +22,12 @@ fn log_of(alloc: Global, disks: &mut [MemDisk]) -> Result<Log, Fail>
     }
 }
 
-/// The pools of the log of two streams with these digits.
-fn pools_of(alloc: Global, first: &str, second: &str) -> Result<Pools, Fail> {
-    let mut disks = disks_of(alloc, &[Image::Whole(first), Image::Whole(second)])?;
+/// The pools of the log of streams with these images.
+fn pools_of(alloc: Global, images: &str) -> Result<Pools, Fail> {
+    let mut disks = Vec::new(alloc);
+    if !put_disks(alloc, &mut disks, images) {
+        return Err(Fail::from("no images"));
+    }
     let log = log_of(alloc, disks.as_mut_slice())?;
     match Pools::new(alloc, &log) {
         Ok(pools) => Ok(pools),
@@ -63,7 +50,7 @@ fn first_left(pools: &Pools) -> (u8, usize) {
 
 #[test]
 fn a_record_waits_for_another_stream(rt: HostRuntime) -> Result<(), Fail> {
-    let mut pools = pools_of(rt.alloc(), FIRST, APART)?;
+    let mut pools = pools_of(rt.alloc(), "waiting apart")?;
     let Next::Taken(third) = pools.take() else {
         return Err(Fail::from("nothing is ready"));
     };
@@ -92,7 +79,7 @@ fn a_record_waits_for_another_stream(rt: HostRuntime) -> Result<(), Fail> {
 
 #[test]
 fn tangled_records_are_never_ready(rt: HostRuntime) -> Result<(), Fail> {
-    let mut pools = pools_of(rt.alloc(), TANGLED, TANGLED_TOO)?;
+    let mut pools = pools_of(rt.alloc(), "tangled-0 tangled-1")?;
     assert!(rt; pools.take() == Next::NotYet);
     assert_eq!(rt; first_left(&pools), (0, 1));
     Ok(())
@@ -101,7 +88,7 @@ fn tangled_records_are_never_ready(rt: HostRuntime) -> Result<(), Fail> {
 /// Two epochs of two streams: the first record of stream 0 that is taken starts at 38, and none of stream 1 is.
 #[test]
 fn pools_hold_what_is_taken(rt: HostRuntime) -> Result<(), Fail> {
-    let pools = pools_of(rt.alloc(), FIRST_AGAIN, SECOND_AGAIN)?;
+    let pools = pools_of(rt.alloc(), "three-runs-0 three-runs-1")?;
     is_recovered(&rt, &pools, [38, 111]);
     Ok(())
 }
