@@ -1,329 +1,215 @@
 //! Refusals, and calls of source, sink and disks that fail.
-use crate::script::{Anew, Disks, Row, Step, go, go_anew};
-use std::alloc::Global;
-use std::process::Abort;
-use std::sync::Wait;
+use crate::scenes::play;
 use std::test::*;
-use std::thread::Threads;
-use tau_disk::{MemSink, MemSource, Quiet};
-use tau_engine::Status;
-use tau_engine_support::{do_at, ends, failing_disks, had_calls, new_disks, tells};
-use tau_text::TextCause;
 
-// Words of no command.
-static NO_COMMANDS: [Anew; 18] = [
-    ("", "", 2, "fault 2\n"),
-    ("run 0 1", "", 2, "fault 2\n"),
-    ("run 1 0", "", 2, "fault 2\n"),
-    ("run 17 1", "", 2, "fault 2\n"),
-    ("run 1 17", "", 2, "fault 2\n"),
-    ("run 2", "", 2, "fault 2\n"),
-    ("run 02 1", "", 2, "fault 2\n"),
-    ("run +2 1", "", 2, "fault 2\n"),
-    ("run 2 1 values", "", 2, "fault 2\n"),
-    ("run 2 1 data data", "", 2, "fault 2\n"),
-    ("run 2 2 wide optimistic", "", 2, "fault 2\n"),
-    ("run 2 2 optimistic data", "", 2, "fault 2\n"),
-    ("run 2 2 optimistic optimistic", "", 2, "fault 2\n"),
-    ("recover 33 1", "", 2, "fault 2\n"),
-    ("recover 1 17", "", 2, "fault 2\n"),
-    ("recover 1 0", "", 2, "fault 2\n"),
-    ("--help", "", 2, "fault 2\n"),
-    ("bench 7 0 4", "", 2, "fault 2\n"),
-];
+static SCENES: &str = "
+== words of no command
+new
+> %1
+= 2
+< fault 2
+row run 0 1
+row run 1 0
+row run 17 1
+row run 1 17
+row run 2
+row run 02 1
+row run +2 1
+row run 2 1 values
+row run 2 1 data data
+row run 2 2 wide optimistic
+row run 2 2 optimistic data
+row run 2 2 optimistic optimistic
+row recover 33 1
+row recover 1 17
+row recover 1 0
+row --help
+row bench 7 0 4
+# Format 1 has room for 16 streams and workers, format 2 for 32.
+row run 33 1 wide
+row run 1 33 wide
+row run 0 1 wide
 
-// Words of runs.
-static RUNS: [Anew; 8] = [
-    ("run 1 1", "", 0, "end 0\n"),
-    ("run 16 1", "", 0, "end 0\n"),
-    ("run 1 16", "", 0, "end 0\n"),
-    ("run 16 16 data", "", 0, "end 0\n"),
-    ("run 3 5 command", "", 0, "end 0\n"),
-    ("run 1 1 optimistic", "", 0, "end 0\n"),
-    ("run 16 16 data optimistic", "", 0, "end 0\n"),
-    ("run 32 32 command optimistic wide", "", 0, "end 0\n"),
-];
+== no word
+new
+>
+= 2
+< fault 2
 
-#[test]
-fn words(rt: HostRuntime) -> Result<(), Fail> {
-    go_anew(&rt, rt.alloc(), &NO_COMMANDS)?;
-    go_anew(&rt, rt.alloc(), &RUNS)
-}
+== words of runs
+new
+> %1
+= 0
+< end 0
+row run 1 1
+row run 16 1
+row run 1 16
+row run 16 16 data
+row run 3 5 command
+row run 1 1 optimistic
+row run 16 16 data optimistic
+row run 32 32 command optimistic wide
+row run 17 17 wide
+row run 32 32 data wide
 
-// The line of the first of them that is bad, and its cause. A text has 64 bytes at most.
-static BAD_TEXTS: [Anew; 6] = [
-    ("run 2 1", "table a\nput b 1 5\n", 3, "fault 3 2 3\n"),
-    (
-        "run 2 1",
-        "table a\nput a 9223372036854775808 1\n",
-        3,
-        "fault 3 2 5\n",
-    ),
-    ("run 2 1", "table a\nproc p 0\n", 3, "fault 3 2 9\n"),
-    ("run 2 1", "table a\nget a\n", 3, "fault 3 2 8\n"),
-    (
-        "run 2 1",
-        "table a\nput a 1 5\nput b 1 5\nput a 01 5\n",
-        3,
-        "fault 3 3 3\n",
-    ),
-    (
-        "run 2 1",
-        "table a\nput a 1 \"aaaaaaaabbbbbbbbccccccccddddddddeeeeeeeeffffffffgggggggghhhhhhhhi\"\n",
-        3,
-        "fault 3 2 7\n",
-    ),
-];
+== the line of a text that is bad first, and its cause
+new
+> run 2 1
+| table a
+| %1
+= 3
+< %2
+row put b 1 5 / fault 3 2 3
+row put a 9223372036854775808 1 / fault 3 2 5
+row proc p 0 / fault 3 2 9
+row get a / fault 3 2 8
+row put a 1 5 ; put b 1 5 ; put a 01 5 / fault 3 3 3
+# A text has 64 bytes at most.
+row put a 1 \"aaaaaaaabbbbbbbbccccccccddddddddeeeeeeeeffffffffgggggggghhhhhhhhi\" / fault 3 2 7
 
-#[test]
-fn bad_texts(rt: HostRuntime) -> Result<(), Fail> {
-    go_anew(&rt, rt.alloc(), &BAD_TEXTS)
-}
+== a put of a text of 64 bytes: its record takes 98 bytes
+new
+> run 2 1
+| table a ; put a 1 \"aaaaaaaabbbbbbbbccccccccddddddddeeeeeeeeffffffffgggggggghhhhhhhh\"
+= 0
+< ack 1 111,0 ; reply 1 none ; order 1 ; row a 1 text \"aaaaaaaabbbbbbbbccccccccddddddddeeeeeeeeffffffffgggggggghhhhhhhh\" ; end 0
 
-// A put of a text of 64 bytes; its record takes 21 bytes, 13 and those.
-static LONGEST: [Anew; 1] = [(
-    "run 2 1",
-    "table a\nput a 1 \"aaaaaaaabbbbbbbbccccccccddddddddeeeeeeeeffffffffgggggggghhhhhhhh\"\n",
-    0,
-    "ack 1 111,0\nreply 1 none\norder 1\nrow a 1 text \"aaaaaaaabbbbbbbbccccccccddddddddeeeeeeeeffffffffgggggggghhhhhhhh\"\nend 0\n",
-)];
+== a text of 2 ^ 24 bytes is read, and its line is bad; with one byte more it is too long
+part longest repeat 0 65536 xxxxxxxxxxxxxxxxxxxxxxxxxxxxxxxxxxxxxxxxxxxxxxxxxxxxxxxxxxxxxxxxxxxxxxxxxxxxxxxxxxxxxxxxxxxxxxxxxxxxxxxxxxxxxxxxxxxxxxxxxxxxxxxxxxxxxxxxxxxxxxxxxxxxxxxxxxxxxxxxxxxxxxxxxxxxxxxxxxxxxxxxxxxxxxxxxxxxxxxxxxxxxxxxxxxxxxxxxxxxxxxxxxxxxxxxxxxxxxxxxxxxxxxxxxxxxxxx
+new
+> run 2 1
+do longest
+= 3
+< fault 3 1 2
+idle
+> run 2 1
+do longest
+|- x
+= 9
+< fault 9
+idle
 
-#[test]
-fn a_text_at_its_longest(rt: HostRuntime) -> Result<(), Fail> {
-    go_anew(&rt, rt.alloc(), &LONGEST)
-}
+== a source that fails
+new
+> run 2 1
+| table a ; get b 1
+source %1
+= 4
+< fault 4
+idle
+row 1
+row 2
 
-// A text of 2 ^ 24 + 1 bytes, whose line is bad.
-fn too_long(alloc: Global) -> Result<Vec<u8>, Fail> {
-    let mut text = Vec::from_slice(alloc, b"x")?;
-    for _ in 0..24u64 {
-        let half = text.clone()?;
-        text.extend_from_slice(&half)?;
-    }
-    text.push(b'x')?;
-    Ok(text)
-}
+== a sink that fails, and the run goes on: the call is durable
+new
+> run 2 1
+| table a ; put a 1 5
+sink 1
+= 5
+> recover 2 1
+= 0
+< elv 53,13 ; taken 0 13 1 ; row a 1 int 5 ; end 0
+new
+> run 2 1
+| table a ; put a 1 5
+sink 2
+= 5
+< ack 1 53,0
+# The sink gets nothing after the call that failed.
+new
+> run 1 1
+| table a ; put a 1 5 ; put a 2 6 ; put a 3 7 ; turns
+sink 2
+= 5
+< ack 1 53
+> recover 1 1
+= 0
+< elv 133 ; taken 0 13 1 ; taken 0 53 2 ; taken 0 93 3 ; row a 1 int 5 ; row a 2 int 6 ; row a 3 int 7 ; end 0
 
-// The call ends so with this text, writes this, and calls no disk.
-fn ends_at_once<R: Threads + Wait + Sync + Abort>(
-    rt: &R,
-    alloc: Global,
-    text: &[u8],
-    status: Status,
-    wanted: &[u8],
-) -> Result<(), Fail> {
-    let mut disks = new_disks(alloc)?;
-    let mut sink = MemSink::new(alloc, &[])?;
-    ends(rt, alloc, "run 2 1", text, status, &mut sink, &mut disks)?;
-    assert_eq!(rt; sink.bytes(), wanted);
-    had_calls(&disks, 0, 0)
-}
+== each call that opens a stream fails in turn, and is the last one of its disk
+new
+failing %1
+> run 2 1
+| table a
+= 6
+< %2
+had %1
+rows 1 8 0 {k} / fault 6 0
+rows 1 8 1 {k} / fault 6 1
 
-// A text of 2 ^ 24 bytes is read, and its line is bad; with one byte more it is too long.
-#[test]
-fn a_text_at_the_limit(rt: HostRuntime) -> Result<(), Fail> {
-    let text = too_long(rt.alloc())?;
-    let longest = text.get(1..).ok_or("no text")?;
-    let bad = Status::BadText {
-        line: 1,
-        cause: TextCause::UnknownWord,
-    };
-    ends_at_once(&rt, rt.alloc(), longest, bad, b"fault 3 1 2\n")?;
-    ends_at_once(&rt, rt.alloc(), &text, Status::TooLong, b"fault 9\n")
-}
+== each call of a flush fails in turn
+# Two workers put into two streams twice each; the turns flush stream 0, acknowledge, and flush stream 1.
+new
+failing %1
+> run 2 2
+| table a ; put a 1 5 ; put a 2 6 ; put a 3 7 ; put a 4 8 ; turns w0 w0 w0 w0 w0 w1 w1 w1 w1 w1 m0 c m1
+= 6
+< %2
+> recover 2 2
+= 0
+< %3
+@early_1 ack 1 53,0 ; reply 1 none ; unsure 2 none ; unrun 3 ; unrun 4 ; order 1 ; order 2 ; row a 1 int 5 ; row a 2 int 6 ; end 6 1
+@late_1 ack 1 53,0 ; ack 2 0,53 ; ack 3 93,0 ; reply 1 none ; reply 2 none ; reply 3 none ; unsure 4 none ; order 1 ; order 3 ; order 2 ; order 4 ; row a 1 int 5 ; row a 2 int 6 ; row a 3 int 7 ; row a 4 int 8 ; end 6 1
+@early_0 ack 2 0,53 ; unsure 1 none ; reply 2 none ; unrun 3 ; unrun 4 ; order 1 ; order 2 ; row a 1 int 5 ; row a 2 int 6 ; end 6 0
+@late_0 ack 1 53,0 ; ack 2 0,53 ; ack 4 0,93 ; reply 1 none ; reply 2 none ; unsure 3 none ; reply 4 none ; order 1 ; order 3 ; order 2 ; order 4 ; row a 1 int 5 ; row a 2 int 6 ; row a 3 int 7 ; row a 4 int 8 ; end 6 0
+@first elv 53,13 ; taken 0 13 1 ; row a 1 int 5 ; end 0
+@second elv 13,53 ; taken 1 13 2 ; row a 2 int 6 ; end 0
+@both elv 53,53 ; taken 0 13 1 ; taken 1 13 2 ; row a 1 int 5 ; row a 2 int 6 ; end 0
+@three_1 elv 93,53 ; taken 0 13 1 ; taken 0 53 3 ; taken 1 13 2 ; row a 1 int 5 ; row a 2 int 6 ; row a 3 int 7 ; end 0
+@three_0 elv 53,93 ; taken 0 13 1 ; taken 1 13 2 ; taken 1 53 4 ; row a 1 int 5 ; row a 2 int 6 ; row a 4 int 8 ; end 0
+@all elv 93,93 ; taken 0 13 1 ; taken 0 53 3 ; taken 1 13 2 ; taken 1 53 4 ; row a 1 int 5 ; row a 2 int 6 ; row a 3 int 7 ; row a 4 int 8 ; end 0
+row 1 8 / @early_1 / @first
+row 1 9 / @early_1 / @first
+row 1 10 / @early_1 / @first
+row 1 11 / @early_1 / @both
+row 1 12 / @late_1 / @three_1
+row 1 13 / @late_1 / @three_1
+row 1 14 / @late_1 / @three_1
+row 1 15 / @late_1 / @all
+row 0 8 / @early_0 / @second
+row 0 9 / @early_0 / @second
+row 0 10 / @early_0 / @second
+row 0 11 / @early_0 / @both
+row 0 12 / @late_0 / @three_0
+row 0 13 / @late_0 / @three_0
+row 0 14 / @late_0 / @three_0
+row 0 15 / @late_0 / @all
 
-// This call of the source fails, and the run ends with it.
-fn cannot_read<R: Threads + Wait + Sync + Abort>(
-    rt: &R,
-    alloc: Global,
-    call: u32,
-) -> Result<(), Fail> {
-    let mut disks = new_disks(alloc)?;
-    let mut sink = MemSink::new(alloc, &[])?;
-    let mut source = MemSource::new(alloc, b"table a\nget b 1\n", &[call])?;
-    let status = do_at(
-        rt,
-        alloc,
-        "run 2 1",
-        &mut source,
-        &mut sink,
-        &mut disks,
-        &Quiet,
-    )?;
-    assert!(rt;
-        status == Status::ReadFault && sink.bytes() == b"fault 4\n".as_slice(),
-        "call {call}"
-    );
-    had_calls(&disks, 0, 0)
-}
+== the second flush fails
+new
+failing 0 13
+> run 2 1
+| table a ; put a 1 5 ; put a 2 6 ; put a 3 7 ; turns
+= 6
+< ack 1 53,0 ; reply 1 none ; unsure 2 none ; unrun 3 ; order 1 ; order 2 ; row a 1 int 5 ; row a 2 int 6 ; end 6 0
+had 0 13
 
-#[test]
-fn a_source_that_fails(rt: HostRuntime) -> Result<(), Fail> {
-    cannot_read(&rt, rt.alloc(), 1)?;
-    cannot_read(&rt, rt.alloc(), 2)
-}
+== no anchor behind a failed disk
+# The anchor of stream 1 holds two positions, in 5 + 16 bytes; stream 0 gets none.
+new
+failing 0 9
+> run 2 2
+| table a ; put a 1 5 ; put a 2 6 ; turns w0 w0 w0 w0 w0 m0 a0 m0 a1 m1
+= 6
+< unsure 1 none ; unrun 2 ; order 1 ; row a 1 int 5 ; end 6 0
+had 0 9
+> recover 2 1
+= 0
+< elv 13,34 ; end 0
 
-// A sink that fails, and the run goes on: the call is durable.
-static SINKS: [Row; 2] = [
-    (
-        Disks::New,
-        &[
-            Step::Ends(
-                "run 2 1",
-                "table a\nput a 1 5\n",
-                Status::WriteFault,
-                &[1],
-                "",
-            ),
-            Step::Tells(
-                "recover 2 1",
-                "",
-                0,
-                "elv 53,13\ntaken 0 13 1\nrow a 1 int 5\nend 0\n",
-            ),
-        ],
-    ),
-    (
-        Disks::New,
-        &[Step::Ends(
-            "run 2 1",
-            "table a\nput a 1 5\n",
-            Status::WriteFault,
-            &[2],
-            "ack 1 53,0\n",
-        )],
-    ),
-];
-
-#[test]
-fn a_sink_that_fails(rt: HostRuntime) -> Result<(), Fail> {
-    go(&rt, rt.alloc(), &SINKS)
-}
-
-// These calls of the first two disks are to fail, and the run ends with this line, after so many calls of that disk.
-fn cannot_open<R: Threads + Wait + Sync>(
-    rt: &R,
-    alloc: Global,
-    first: &[u32],
-    second: &[u32],
-    line: &str,
-    place: usize,
-    call: u32,
-) -> Result<(), Fail> {
-    let mut disks = failing_disks(alloc, first, second)?;
-    tells(rt, alloc, "run 2 1", "table a\n", 6, line, &mut disks)?;
-    had_calls(&disks, place, u64::from(call))
-}
+== of two failed disks the lower one is named
+new
+failing 0 10
+failing 1 8
+> run 2 2
+| table a ; put a 1 5 ; put a 2 6 ; put a 3 7 ; turns w0 w0 w0 w0 w0 w1 w1 w1 w1 w1 m1 m0
+= 6
+< unsure 1 none ; unsure 2 none ; unrun 3 ; order 1 ; order 2 ; row a 1 int 5 ; row a 2 int 6 ; end 6 0
+had 0 10
+had 1 8
+";
 
 #[test]
-fn each_opening_call_fails_in_turn(rt: HostRuntime) -> Result<(), Fail> {
-    for call in 1..8u32 {
-        cannot_open(&rt, rt.alloc(), &[call], &[], "fault 6 0\n", 0, call)?;
-        cannot_open(&rt, rt.alloc(), &[], &[call], "fault 6 1\n", 1, call)?;
-    }
-    Ok(())
-}
-
-// Two workers put into two streams twice each; the turns flush stream 0, acknowledge, and flush stream 1.
-static FOUR_PUTS: &str =
-    "table a\nput a 1 5\nput a 2 6\nput a 3 7\nput a 4 8\nturns w0 w0 w0 w0 w0 w1 w1 w1 w1 w1 m0 c m1\n";
-
-// What the run of four puts tells on disks of which one fails a call, and what recovery finds then.
-fn fails_and_recovers<R: Threads + Wait + Sync>(
-    rt: &R,
-    alloc: Global,
-    first: &[u32],
-    second: &[u32],
-    report: &str,
-    found: &str,
-) -> Result<(), Fail> {
-    let mut disks = failing_disks(alloc, first, second)?;
-    tells(rt, alloc, "run 2 2", FOUR_PUTS, 6, report, &mut disks)?;
-    tells(rt, alloc, "recover 2 2", "", 0, found, &mut disks)
-}
-
-// A call of one disk that fails, what the run tells, and what recovery finds.
-type Failing = (u32, &'static str, &'static str);
-
-const EARLY_1: &str =
-    "ack 1 53,0\nreply 1 none\nunsure 2 none\nunrun 3\nunrun 4\norder 1\norder 2\nrow a 1 int 5\nrow a 2 int 6\nend 6 1\n";
-
-const LATE_1: &str =
-    "ack 1 53,0\nack 2 0,53\nack 3 93,0\nreply 1 none\nreply 2 none\nreply 3 none\nunsure 4 none\norder 1\norder 3\norder 2\norder 4\nrow a 1 int 5\nrow a 2 int 6\nrow a 3 int 7\nrow a 4 int 8\nend 6 1\n";
-
-const EARLY_0: &str =
-    "ack 2 0,53\nunsure 1 none\nreply 2 none\nunrun 3\nunrun 4\norder 1\norder 2\nrow a 1 int 5\nrow a 2 int 6\nend 6 0\n";
-
-const LATE_0: &str =
-    "ack 1 53,0\nack 2 0,53\nack 4 0,93\nreply 1 none\nreply 2 none\nunsure 3 none\nreply 4 none\norder 1\norder 3\norder 2\norder 4\nrow a 1 int 5\nrow a 2 int 6\nrow a 3 int 7\nrow a 4 int 8\nend 6 0\n";
-
-const FIRST: &str = "elv 53,13\ntaken 0 13 1\nrow a 1 int 5\nend 0\n";
-
-const SECOND: &str = "elv 13,53\ntaken 1 13 2\nrow a 2 int 6\nend 0\n";
-
-const BOTH: &str = "elv 53,53\ntaken 0 13 1\ntaken 1 13 2\nrow a 1 int 5\nrow a 2 int 6\nend 0\n";
-
-const THREE_1: &str =
-    "elv 93,53\ntaken 0 13 1\ntaken 0 53 3\ntaken 1 13 2\nrow a 1 int 5\nrow a 2 int 6\nrow a 3 int 7\nend 0\n";
-
-const THREE_0: &str =
-    "elv 53,93\ntaken 0 13 1\ntaken 1 13 2\ntaken 1 53 4\nrow a 1 int 5\nrow a 2 int 6\nrow a 4 int 8\nend 0\n";
-
-const ALL: &str =
-    "elv 93,93\ntaken 0 13 1\ntaken 0 53 3\ntaken 1 13 2\ntaken 1 53 4\nrow a 1 int 5\nrow a 2 int 6\nrow a 3 int 7\nrow a 4 int 8\nend 0\n";
-
-static STREAM_1: [Failing; 8] = [
-    (8, EARLY_1, FIRST),
-    (9, EARLY_1, FIRST),
-    (10, EARLY_1, FIRST),
-    (11, EARLY_1, BOTH),
-    (12, LATE_1, THREE_1),
-    (13, LATE_1, THREE_1),
-    (14, LATE_1, THREE_1),
-    (15, LATE_1, ALL),
-];
-
-static STREAM_0: [Failing; 8] = [
-    (8, EARLY_0, SECOND),
-    (9, EARLY_0, SECOND),
-    (10, EARLY_0, SECOND),
-    (11, EARLY_0, BOTH),
-    (12, LATE_0, THREE_0),
-    (13, LATE_0, THREE_0),
-    (14, LATE_0, THREE_0),
-    (15, LATE_0, ALL),
-];
-
-#[test]
-fn each_flush_of_stream_1_fails_in_turn(rt: HostRuntime) -> Result<(), Fail> {
-    for (call, report, found) in &STREAM_1 {
-        fails_and_recovers(&rt, rt.alloc(), &[], &[*call], report, found)?;
-    }
-    Ok(())
-}
-
-#[test]
-fn each_flush_of_stream_0_fails_in_turn(rt: HostRuntime) -> Result<(), Fail> {
-    for (call, report, found) in &STREAM_0 {
-        fails_and_recovers(&rt, rt.alloc(), &[*call], &[], report, found)?;
-    }
-    Ok(())
-}
-
-static SECOND_FLUSH: [Row; 1] = [(
-    Disks::Failing(&[13], &[]),
-    &[
-        Step::Tells(
-            "run 2 1",
-            "table a\nput a 1 5\nput a 2 6\nput a 3 7\nturns\n",
-            6,
-            "ack 1 53,0\nreply 1 none\nunsure 2 none\nunrun 3\norder 1\norder 2\nrow a 1 int 5\nrow a 2 int 6\nend 6 0\n",
-        ),
-        Step::Had(0, 13),
-    ],
-)];
-
-#[test]
-fn the_second_flush_fails(rt: HostRuntime) -> Result<(), Fail> {
-    go(&rt, rt.alloc(), &SECOND_FLUSH)
+fn refusals_and_faults(rt: HostRuntime) -> Result<(), Fail> {
+    play(&rt, rt.alloc(), SCENES)
 }

@@ -1,14 +1,22 @@
-//! Worked runs of the program, whole, over memory forms. They stand in a crate of their own, so that the top call is proved once.
+//! Worked calls of the program, whole, over memory forms, as scenes. They stand in a crate of their own, so that the top call is proved once.
 #![tactic(auto)]
 
 #[cfg(test)]
-mod bank;
+mod benches;
+#[cfg(test)]
+mod drills;
+#[cfg(test)]
+mod endings;
 #[cfg(test)]
 mod faults;
 #[cfg(test)]
+mod lines;
+#[cfg(test)]
 mod mixes;
 #[cfg(test)]
-mod optimistic;
+mod number;
+#[cfg(test)]
+mod recoveries;
 #[cfg(test)]
 mod reopened;
 #[cfg(test)]
@@ -16,10 +24,8 @@ mod runs;
 #[cfg(test)]
 mod scenes;
 #[cfg(test)]
-mod script;
-#[cfg(test)]
 mod spell;
 #[cfg(test)]
-mod stops;
-#[cfg(test)]
 mod threads;
+#[cfg(test)]
+mod watch;

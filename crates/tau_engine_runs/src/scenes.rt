@@ -1,50 +1,74 @@
-//! Scenes: calls of the program one after another over the same disks, and what must come of them, as a text. Each line begins with a word,
-//! and a rest `%1`, `%2` .. stands for that field of the row with which the scenes are played.
+//! Scenes: calls of the program one after another over the same disks, and what must come of them, as a text. It is cut before each line
+//! `== TITLE`, and each of its parts is a scene: its lines begin with a word and are done in turn.
 //!
-//! - `#` is a comment. `$name DIGITS` names bytes in hexadecimal digits, which other lines spell by `$name`.
+//! - `row FIELD / FIELD ..` is no line of a scene, which is played with each of its rows, or once if it has none: `%1`, `%2` .. stand for
+//!   the fields. `rows FROM PAST FIELDS` is a row for each number from one to before the other, for which `{k}` stands in it.
+//! - `#` is a comment. `$name DIGITS` names bytes in hexadecimal digits, which other lines spell by `$name`, or `$name:FROM:PAST` for a range
+//!   of them; `@name LINES` names lines. LINES have ` ; ` between them. `do NAME` does what the lines `part NAME LINE` say. All scenes of a
+//!   text know its names.
 //! - `new` begins anew: new disks. `disk J IMAGE` is a disk that holds this, `failing J K ..` a new one of which these calls fail, and
 //!   `stopping J K` one on which all stops at that call. `change J FROM PAST BYTES` puts bytes in place of those of its image, and `tear old`,
 //!   `tear new`, `tear torn` leaves of all disks what a stop would leave. An IMAGE is `bytes BYTES`, or `stream FORMAT STREAMS NUMBER BODY / BODY ..`:
-//!   the header of a stream, and its blocks.
-//! - `> WORDS` begins a call. Its source is what comes then: `| LINE`, `+ BYTES`, `piece J BYTES` of a stream, `given` (the text that was
-//!   given to the scenes), `told` (what the call before told). Of its source and its sink these calls fail: `source K ..`, `sink K ..`.
-//! - `= CODE` makes the call, which ends with this code. All of what it told has to be looked at: `< LINE` is the next line, `~ LINE` one
-//!   of the next ones, in whichever order. Or it is looked at as a whole: `has LINE`, and `count N START`, lines that begin so.
-//! - `had J N` and `held J IMAGE` look at a disk: how many calls it has had, and what it holds. `idle` says that no disk was called.
-use crate::spell::{image_of, number_of, numbers_of, put_bytes, put_piece, word_of, words_of};
+//!   the header of a stream, and its blocks; `each FROM PAST BODY` is a block for each number, `{k}` in it eight bytes.
+//! - `> WORDS` begins a call. Its source is what comes then: `| LINES` (`|- LINE` is one with no end), `each FROM PAST LINES` for each number
+//!   (`repeat FROM PAST TEXT` with no end), `+ BYTES`, `piece J BYTES` of a stream, `told` (what the call before told). Of its source and its sink these calls fail: `source K ..`, `sink K ..`.
+//!   `hold PLACE N PLACE M` holds who reaches the first place for the Nth time until the other was reached M times; a PLACE is `call-J` or
+//!   `replay-J` of a worker, `commit-J` or `flush-J` of a stream, or `ack`.
+//! - `= CODE` makes the call, which ends with this code. All of what it told has to be looked at: `< LINES` are the next lines, `times N LINE`
+//!   this one N times, `^ WORDS` how the next one begins, `~ LINES` some of the next ones, in whichever order. Or it is looked at as a whole:
+//!   `has LINES` one after another, `count N WORDS`, lines that begin so, `sum N WORDS`, of the numbers at their ends, `where WORDS ; LINE`, that
+//!   if one begins so, the other is there too. `keep` keeps it all, and `kept` says that the rest is what was kept. `= any` makes a call
+//!   that ends as it may, and tells what it may. `ended disk J` and `ended kind J AT` say more of how it ended: that disk failed, or there
+//!   is a record of a bad kind. `reached N PLACE` says how often the places that begin so were reached at least.
+//! - `had J N` and `held J IMAGE` look at a disk: how many calls it has had, and what it holds; `last J N BYTES` at what begins N bytes before
+//!   its end. `idle` says that no disk was called.
+use crate::endings::is_status;
+use crate::lines::{after, are_told, begins, first_of, is_count, is_implied, is_sum, lines_of};
+use crate::number::{put_lines, put_template};
+use crate::spell::{
+    filled, image_of, number_of, numbers_of, put_bytes, put_piece, word_of, words_of,
+};
+use crate::watch::Watch;
 use std::alloc::Global;
 use std::process::Abort;
 use std::str;
 use std::sync::Wait;
 use std::test::*;
 use std::thread::Threads;
-use tau_disk::{Gate, MemDisk, MemSink, MemSource, Quiet, Tear};
-use tau_engine::{DISKS, taurus};
-use tau_engine_support::lines_from;
+use tau_disk::{MemDisk, MemSink, MemSource, Tear};
+use tau_engine::{DISKS, Status, taurus};
 
-/// What scenes are played with: a text that their sources may hold, and the fields of a row, with ` / ` between them.
+/// A scene of a text, and the row with which it is played.
 #[derive(Clone, Copy)]
-pub(crate) struct With<'t> {
-    /// The text.
-    pub(crate) given: &'t str,
-    /// The row.
-    pub(crate) row: &'t str,
+struct Scene<'t> {
+    text: &'t str,
+    title: &'t str,
+    lines: &'t str,
+    row: &'t str,
 }
 
 /// What a scene has come to.
 #[derive(Drop)]
 struct Stage<'t> {
     text: &'t str,
-    with: With<'t>,
     disks: Vec<MemDisk>,
     words: &'t str,
+    // Whether the call that was begun was made.
+    is_made: bool,
     source: Vec<u8>,
     source_fails: &'t str,
     sink_fails: &'t str,
     told: Vec<u8>,
     // How much of it was looked at.
     seen: usize,
+    // What was told before, and kept.
+    kept: Vec<u8>,
+    // How the last call ended.
+    status: Option<Status>,
     calls: u64,
+    watch: Watch,
+    // The line of a part that is played.
+    part: &'t str,
 }
 
 // The disk in this place holds this.
@@ -65,18 +89,22 @@ fn image_at<R: Abort>(rt: &R, disks: &[MemDisk], place: u64) -> Option<Vec<u8>> 
 }
 
 impl<'t> Stage<'t> {
-    fn new(alloc: Global, text: &'t str, with: With<'t>) -> Stage<'t> {
+    fn new<R: Abort>(rt: &R, alloc: Global, text: &'t str) -> Stage<'t> {
         Stage {
             text,
-            with,
             disks: Vec::new(alloc),
             words: "",
+            is_made: true,
             source: Vec::new(alloc),
             source_fails: "",
             sink_fails: "",
             told: Vec::new(alloc),
             seen: 0,
+            kept: Vec::new(alloc),
+            status: None,
             calls: 0,
+            watch: Watch::new(rt, alloc),
+            part: "",
         }
     }
 
@@ -176,9 +204,11 @@ impl<'t> Stage<'t> {
     // Begins a call of these words.
     fn call(&mut self, words: &'t str) -> bool {
         self.words = words;
+        self.is_made = false;
         self.source.clear();
         self.source_fails = "";
         self.sink_fails = "";
+        self.watch.begin();
         true
     }
 
@@ -188,14 +218,42 @@ impl<'t> Stage<'t> {
         true
     }
 
+    fn add_lines<R: Abort>(&mut self, rt: &R, lines: &str) -> bool {
+        let Some(lines) = lines_of(self.text, lines) else {
+            return false;
+        };
+        for line in lines.split(" ; ") {
+            self.source
+                .extend_from_slice(line.as_bytes())
+                .expect(rt, "memory");
+            self.source.push(b'\n').expect(rt, "memory");
+        }
+        true
+    }
+
+    // Adds lines for each of these numbers.
+    fn repeat<R: Abort>(&mut self, rt: &R, alloc: Global, rest: &str, end: &[u8]) -> bool {
+        let Some((from, rest)) = number_of(rest) else {
+            return false;
+        };
+        let Some((past, lines)) = number_of(rest) else {
+            return false;
+        };
+        for k in from..past {
+            if !put_lines(rt, alloc, lines, k, end, &mut self.source) {
+                return false;
+            }
+        }
+        from < past
+    }
+
     // Makes the call over this source and this sink.
-    fn make_over<R: Threads + Wait + Sync + Abort, G: Gate + Sync>(
+    fn make_over<R: Threads + Wait + Sync + Abort>(
         &mut self,
         rt: &R,
         alloc: Global,
         source: &mut MemSource,
         sink: &mut MemSink,
-        gate: &G,
     ) -> Option<u8> {
         if self.disks.len() != DISKS {
             return None;
@@ -208,9 +266,21 @@ impl<'t> Stage<'t> {
             source,
             sink,
             &mut self.disks,
-            gate,
+            &self.watch,
         );
+        self.status = Some(status);
         Some(status.code())
+    }
+
+    // The call has told this, and ended with this code, where that is so.
+    fn end<R: Abort>(&mut self, rt: &R, told: &[u8], found: u8, code: &str) -> bool {
+        self.told.clear();
+        self.told.extend_from_slice(told).expect(rt, "memory");
+        self.calls = self.calls.wrapping_add(1);
+        self.is_made = true;
+        let is_any = code == "any";
+        self.seen = if is_any { self.told.len() } else { 0 };
+        is_any || code.parse::<u8>() == Ok(found)
     }
 
     // Makes the call, which ends with this code.
@@ -228,52 +298,93 @@ impl<'t> Stage<'t> {
             return false;
         };
         let mut sink = MemSink::new(alloc, &fails).expect(rt, "memory");
-        let Some(found) = self.make_over(rt, alloc, &mut source, &mut sink, &Quiet) else {
+        let Some(found) = self.make_over(rt, alloc, &mut source, &mut sink) else {
             return false;
         };
-        self.told.clear();
-        self.told
-            .extend_from_slice(sink.bytes())
-            .expect(rt, "memory");
-        self.seen = 0;
-        self.calls = self.calls.wrapping_add(1);
-        code.parse::<u8>() == Ok(found)
+        self.end(rt, sink.bytes(), found, code) && self.watch.is_in_time()
     }
 
-    // The next line that was told is this one.
-    fn next_is(&mut self, line: &str) -> bool {
-        let Some(rest) = self.told.get(self.seen..) else {
+    // The next lines that were told are these.
+    fn next_is(&mut self, lines: &str) -> bool {
+        let Some(lines) = lines_of(self.text, lines) else {
             return false;
         };
-        let Some(rest) = rest.strip_prefix(line.as_bytes()) else {
+        let Some(rest) = after(self.told.get(self.seen..).unwrap_or(&[]), lines) else {
             return false;
         };
-        if rest.first() != Some(&b'\n') {
-            return false;
-        }
-        self.seen += line.len() + 1;
+        self.seen = self.told.len().wrapping_sub(rest.len());
         true
     }
 
-    // So many lines of all that was told begin with this.
-    fn count(&mut self, rest: &str) -> bool {
-        let Some((count, start)) = number_of(rest) else {
+    // The next lines that were told are this one, so many times.
+    fn next_are(&mut self, rest: &str) -> bool {
+        let Some((count, line)) = number_of(rest) else {
             return false;
         };
-        self.seen = self.told.len();
-        lines_from(&self.told, start.as_bytes()) == count
+        for _ in 0..count {
+            if !self.next_is(line) {
+                return false;
+            }
+        }
+        true
     }
 
-    // Of all that was told, one line is this.
-    fn has(&mut self, line: &str) -> bool {
-        self.seen = self.told.len();
-        is_told(&self.told, line)
+    // The next line that was told begins with these words.
+    fn next_begins(&mut self, words: &str) -> bool {
+        let line = first_of(self.told.get(self.seen..).unwrap_or(&[]));
+        self.seen = self.seen.wrapping_add(line.len()).wrapping_add(1);
+        begins(line, words)
     }
 
-    // One of the next lines is this.
-    fn has_next(&mut self, line: &str) -> bool {
-        self.seen += line.len() + 1;
-        is_told(&self.told, line)
+    // These are some of the next lines.
+    fn has_next(&mut self, lines: &str) -> bool {
+        let Some(lines) = lines_of(self.text, lines) else {
+            return false;
+        };
+        for line in lines.split(" ; ") {
+            if !are_told(&self.told, line) {
+                return false;
+            }
+            self.seen = self.seen.wrapping_add(line.len()).wrapping_add(1);
+        }
+        true
+    }
+
+    // Keeps what was told.
+    fn keep<R: Abort>(&mut self, rt: &R) -> bool {
+        self.kept.clear();
+        self.kept.extend_from_slice(&self.told).expect(rt, "memory");
+        self.seen = self.told.len();
+        true
+    }
+
+    // The rest of what was told is what was kept.
+    fn is_kept(&mut self) -> bool {
+        let rest = self.told.get(self.seen..);
+        let is_same = rest == Some(self.kept.as_slice());
+        self.seen = self.told.len();
+        is_same
+    }
+
+    // What is said of all that was told.
+    fn look_whole(&mut self, word: &str, rest: &str) -> bool {
+        self.seen = self.told.len();
+        let told = self.told.as_slice();
+        match word {
+            "has" => are_told(told, rest),
+            "count" => is_count(told, rest),
+            "sum" => is_sum(told, rest),
+            "where" => is_implied(told, rest),
+            _ => false,
+        }
+    }
+
+    // The last call ended so.
+    fn has_ended(&self, spelled: &str) -> bool {
+        match self.status {
+            Some(status) => is_status(status, spelled),
+            None => false,
+        }
     }
 
     // The disk in this place has had so many calls.
@@ -299,6 +410,19 @@ impl<'t> Stage<'t> {
             return false;
         };
         disk.image(Tear::Old).expect(rt, "memory").as_slice() == wanted.as_slice()
+    }
+
+    // The image of the disk in this place has these bytes, which begin so many bytes before its end.
+    fn ends_with<R: Abort>(&self, rt: &R, alloc: Global, rest: &str) -> Option<bool> {
+        let (place, rest) = number_of(rest)?;
+        let (back, spelled) = number_of(rest)?;
+        let image = image_at(rt, &self.disks, place)?;
+        let mut wanted = Vec::new(alloc);
+        if !put_bytes(rt, alloc, self.text, spelled, &mut wanted) {
+            return None;
+        }
+        let from = image.len().checked_sub(back as usize)?;
+        Some(image.get(from..)?.starts_with(wanted.as_slice()))
     }
 
     // No disk was called.
@@ -339,10 +463,13 @@ impl<'t> Stage<'t> {
         rest: &'t str,
     ) -> Option<bool> {
         Some(match word {
-            "|" => self.add(rt, rest.as_bytes(), b"\n"),
+            "|" => self.add_lines(rt, rest),
+            "|-" => self.add(rt, rest.as_bytes(), b""),
             "+" => put_bytes(rt, alloc, self.text, rest, &mut self.source),
             "piece" => put_piece(rt, alloc, self.text, rest, &mut self.source),
-            "given" => self.add(rt, self.with.given.as_bytes(), b""),
+            "each" => self.repeat(rt, alloc, rest, b"\n"),
+            "repeat" => self.repeat(rt, alloc, rest, b""),
+            "hold" => self.watch.hold(rt, rest),
             "told" => {
                 self.source
                     .extend_from_slice(&self.told)
@@ -361,23 +488,75 @@ impl<'t> Stage<'t> {
         })
     }
 
-    // What is looked at.
-    fn look<R: Abort>(&mut self, rt: &R, alloc: Global, word: &str, rest: &str) -> bool {
+    // What is said of a disk or of how the call ended.
+    fn look_beside<R: Abort>(&self, rt: &R, alloc: Global, word: &str, rest: &str) -> Option<bool> {
         match word {
-            "<" => self.next_is(rest),
-            "~" => self.has_next(rest),
-            "has" => self.has(rest),
-            "count" => self.count(rest),
-            "had" => self.had(rest),
-            "held" => self.held(rt, alloc, rest),
-            "idle" => self.is_idle(),
-            _ => false,
+            "had" => Some(self.had(rest)),
+            "held" => Some(self.held(rt, alloc, rest)),
+            "last" => self.ends_with(rt, alloc, rest),
+            "idle" => Some(self.is_idle()),
+            "ended" => Some(self.has_ended(rest)),
+            "reached" => Some(self.watch.has_reached(rest)),
+            _ => None,
         }
     }
 
-    // Whether all that was told was looked at.
+    // What is said of what was told.
+    fn look<R: Abort>(&mut self, rt: &R, word: &str, rest: &str) -> bool {
+        match word {
+            "<" => self.next_is(rest),
+            "^" => self.next_begins(rest),
+            "times" => self.next_are(rest),
+            "~" => self.has_next(rest),
+            "keep" => self.keep(rt),
+            "kept" => self.is_kept(),
+            _ => self.look_whole(word, rest),
+        }
+    }
+
+    // Whether each call that was begun was made, and all that it told was looked at.
     fn is_settled(&self) -> bool {
-        self.seen == self.told.len()
+        self.is_made && self.seen == self.told.len()
+    }
+
+    // Does what a line of no part says.
+    fn does_one<R: Threads + Wait + Sync + Abort>(
+        &mut self,
+        rt: &R,
+        alloc: Global,
+        word: &str,
+        rest: &'t str,
+    ) -> bool {
+        match word {
+            _ if rest.contains('%') => false,
+            ">" => self.is_settled() && self.call(rest),
+            "=" => !self.is_made && self.make(rt, alloc, rest),
+            _ => match self.prepare(rt, alloc, word, rest) {
+                Some(done) => done && self.is_settled(),
+                None => self.compose_or_look(rt, alloc, word, rest),
+            },
+        }
+    }
+
+    // Does what the lines of this part say; there is one at least.
+    fn does_part<R: Threads + Wait + Sync + Abort>(
+        &mut self,
+        rt: &R,
+        alloc: Global,
+        name: &str,
+    ) -> bool {
+        self.part = "";
+        let text = self.text;
+        for line in text.lines() {
+            if let Some(said) = line_of_part(line, name) {
+                self.part = said;
+                let (word, rest) = word_of(said);
+                if !self.does_one(rt, alloc, word, rest) {
+                    return false;
+                }
+            }
+        }
+        !self.part.is_empty()
     }
 
     // Does what a line says.
@@ -388,14 +567,11 @@ impl<'t> Stage<'t> {
         word: &str,
         rest: &'t str,
     ) -> bool {
-        match word {
-            ">" => self.is_settled() && self.call(rest),
-            "=" => self.make(rt, alloc, rest),
-            _ => match self.prepare(rt, alloc, word, rest) {
-                Some(done) => done && self.is_settled(),
-                None => self.compose_or_look(rt, alloc, word, rest),
-            },
+        if word == "do" {
+            return self.does_part(rt, alloc, rest);
         }
+        self.part = "";
+        self.does_one(rt, alloc, word, rest)
     }
 
     fn compose_or_look<R: Abort>(
@@ -407,88 +583,136 @@ impl<'t> Stage<'t> {
     ) -> bool {
         match self.compose(rt, alloc, word, rest) {
             Some(done) => done,
-            None => self.look(rt, alloc, word, rest),
+            None => match self.look_beside(rt, alloc, word, rest) {
+                Some(is_so) => is_so,
+                None => self.look(rt, word, rest),
+            },
         }
     }
 }
 
-// Whether a line that was told is this one.
-fn is_told(told: &[u8], line: &str) -> bool {
-    for one in str::from_utf8(told).unwrap_or("").lines() {
-        if one == line {
-            return true;
-        }
+// What the line says, if it is one of this part.
+fn line_of_part<'t>(line: &'t str, name: &str) -> Option<&'t str> {
+    let (word, rest) = word_of(line);
+    let (part, said) = word_of(rest);
+    if word == "part" && part == name {
+        Some(said)
+    } else {
+        None
     }
-    false
 }
 
 // Whether a line that begins with this word says nothing to be done.
 fn is_silent(word: &str) -> bool {
-    word.is_empty() || word == "#" || word.starts_with('$')
+    word.starts_with(['$', '@']) || matches!(word, "#" | "part" | "row" | "rows")
 }
 
-// What a rest stands for: a field of the row if it is its number after `%`, or itself.
-fn filled<'t>(row: &'t str, rest: &'t str) -> &'t str {
-    let Some(number) = rest.strip_prefix('%') else {
-        return rest;
-    };
-    let mut left = number.parse::<u64>().unwrap_or(0);
-    for field in row.split(" / ") {
-        left = left.saturating_sub(1);
-        if left == 0 {
-            return field;
-        }
-    }
-    rest
+// What is wrong: a line of a scene, the row with which it is played, the line of the part that it plays, and what was told.
+fn fault(scene: Scene<'_>, line: &str, stage: &Stage<'_>) -> Fail {
+    let told = str::from_utf8(&stage.told).unwrap_or("no text");
+    let (title, row, part) = (scene.title, scene.row, stage.part);
+    Fail::new(format_args!("{title}, row {row}\n{line}\n{part}\n{told}"))
 }
 
-fn fault(number: u64, line: &str, told: &[u8]) -> Fail {
-    let told = str::from_utf8(told).unwrap_or("no text");
-    Fail::new(format_args!("line {number}: {line}\n{told}"))
-}
-
-/// Plays the scenes with what they are given.
-pub(crate) fn play_with<R: Threads + Wait + Sync + Abort>(
+// Plays a scene that is filled.
+fn play_filled<R: Threads + Wait + Sync + Abort>(
     rt: &R,
     alloc: Global,
-    scenes: &str,
-    with: With<'_>,
+    scene: Scene<'_>,
 ) -> Result<(), Fail> {
-    let mut stage = Stage::new(alloc, scenes, with);
-    let mut number = 0u64;
-    for line in scenes.lines() {
-        number = number.wrapping_add(1);
+    let mut stage = Stage::new(rt, alloc, scene.text);
+    for line in scene.lines.lines() {
         let (word, rest) = word_of(line);
-        if !is_silent(word) && !stage.does(rt, alloc, word, filled(with.row, rest)) {
-            return Err(fault(number, line, &stage.told));
+        if !line.is_empty() && !is_silent(word) && !stage.does(rt, alloc, word, rest) {
+            return Err(fault(scene, line, &stage));
         }
     }
     if stage.calls == 0 || !stage.is_settled() {
-        return Err(fault(number, "the end", &stage.told));
+        return Err(fault(scene, "the end", &stage));
     }
     Ok(())
 }
 
-/// Plays the scenes.
+// Plays the scene with this row.
+fn play_row<R: Threads + Wait + Sync + Abort>(
+    rt: &R,
+    alloc: Global,
+    scene: Scene<'_>,
+    row: &str,
+) -> Result<(), Fail> {
+    let text = filled(rt, alloc, scene.text, row);
+    let lines = filled(rt, alloc, scene.lines, row);
+    let scene = Scene {
+        text: &text,
+        title: scene.title,
+        lines: &lines,
+        row,
+    };
+    play_filled(rt, alloc, scene)
+}
+
+// Plays the scene with a row for each of these numbers.
+fn play_numbers<R: Threads + Wait + Sync + Abort>(
+    rt: &R,
+    alloc: Global,
+    scene: Scene<'_>,
+    spelled: &str,
+) -> Result<(), Fail> {
+    let (from, rest) = number_of(spelled).ok_or("rows without a number")?;
+    let (past, fields) = number_of(rest).ok_or("rows without an end")?;
+    if past <= from {
+        return Err(Fail::new("rows that are none"));
+    }
+    for k in from..past {
+        let mut row = Vec::new(alloc);
+        if !put_template(rt, alloc, fields, k, &mut row) {
+            return Err(Fail::new("rows that cannot be filled"));
+        }
+        play_row(rt, alloc, scene, str::from_utf8(&row).unwrap_or(""))?;
+    }
+    Ok(())
+}
+
+// Plays the scene with each of its rows, or once if it has none.
+fn play_scene<R: Threads + Wait + Sync + Abort>(
+    rt: &R,
+    alloc: Global,
+    scene: Scene<'_>,
+) -> Result<(), Fail> {
+    let mut has_rows = false;
+    for line in scene.lines.lines() {
+        match word_of(line) {
+            ("row", row) => play_row(rt, alloc, scene, row)?,
+            ("rows", rest) => play_numbers(rt, alloc, scene, rest)?,
+            _ => continue,
+        }
+        has_rows = true;
+    }
+    if has_rows {
+        return Ok(());
+    }
+    play_row(rt, alloc, scene, "")
+}
+
+/// Plays the scenes of a text. What comes before the first title is a scene too, if it is not empty.
 pub(crate) fn play<R: Threads + Wait + Sync + Abort>(
     rt: &R,
     alloc: Global,
-    scenes: &str,
+    text: &str,
 ) -> Result<(), Fail> {
-    play_with(rt, alloc, scenes, With { given: "", row: "" })
-}
-
-/// Plays the scenes with each of these rows, a line each.
-pub(crate) fn play_rows<R: Threads + Wait + Sync + Abort>(
-    rt: &R,
-    alloc: Global,
-    scenes: &str,
-    given: &str,
-    rows: &str,
-) -> Result<(), Fail> {
-    for row in rows.lines() {
-        if !row.is_empty() {
-            play_with(rt, alloc, scenes, With { given, row })?;
+    for part in text.split("\n==") {
+        let (title, lines) = part.split_once('\n').unwrap_or((part, ""));
+        if !title.is_empty() && !title.starts_with(' ') {
+            return Err(Fail::new(format_args!("no title: {title}")));
+        }
+        let scene = Scene {
+            text,
+            title,
+            lines,
+            row: "",
+        };
+        if !part.is_empty() {
+            play_scene(rt, alloc, scene)?;
         }
     }
     Ok(())

@@ -1,4 +1,5 @@
 //! What scenes spell: numbers, words, bytes, images of disks, and pieces of streams.
+use crate::number::value_of;
 use std::alloc::Global;
 use std::process::Abort;
 
@@ -54,7 +55,37 @@ fn put_digits<R: Abort>(rt: &R, alloc: Global, digits: &str, to: &mut Vec<u8>) -
     true
 }
 
-/// Puts spelled bytes: hexadecimal digits, and names of such digits in the text.
+// Puts a range of the bytes of these digits, its ends with `:` between them.
+fn put_range<R: Abort>(rt: &R, alloc: Global, digits: &str, range: &str, to: &mut Vec<u8>) -> bool {
+    let mut bytes = Vec::new(alloc);
+    if !put_digits(rt, alloc, digits, &mut bytes) {
+        return false;
+    }
+    let (from, past) = range.split_once(':').unwrap_or((range, ""));
+    let (Ok(from), Ok(past)) = (from.parse::<u32>(), past.parse::<u32>()) else {
+        return false;
+    };
+    match bytes.get(from as usize..past as usize) {
+        Some(part) => to.extend_from_slice(part).expect(rt, "memory"),
+        None => return false,
+    }
+    true
+}
+
+// Puts the bytes of a word: digits, a name of digits, or a range of the bytes behind a name.
+fn put_word<R: Abort>(rt: &R, alloc: Global, text: &str, word: &str, to: &mut Vec<u8>) -> bool {
+    if !word.starts_with('$') {
+        return put_digits(rt, alloc, word, to);
+    }
+    let (name, range) = word.split_once(':').unwrap_or((word, ""));
+    match named(text, name) {
+        Some(digits) if range.is_empty() => put_digits(rt, alloc, digits, to),
+        Some(digits) => put_range(rt, alloc, digits, range, to),
+        None => false,
+    }
+}
+
+/// Puts spelled bytes: hexadecimal digits, names of such digits in the text, and ranges `$name:FROM:PAST` of named ones.
 pub(crate) fn put_bytes<R: Abort>(
     rt: &R,
     alloc: Global,
@@ -63,23 +94,58 @@ pub(crate) fn put_bytes<R: Abort>(
     to: &mut Vec<u8>,
 ) -> bool {
     for word in spelled.split_whitespace() {
-        let digits = if word.starts_with('$') {
-            named(text, word)
-        } else {
-            Some(word)
-        };
-        let Some(digits) = digits else { return false };
-        if !put_digits(rt, alloc, digits, to) {
+        if !put_word(rt, alloc, text, word, to) {
             return false;
         }
     }
     true
 }
 
-// Puts a block: its gate, the length of its body, and the body.
-fn put_block<R: Abort>(rt: &R, alloc: Global, text: &str, body: &str, to: &mut Vec<u8>) -> bool {
+// Puts the bytes of a body, `{ }` in it filled for this number.
+fn put_body<R: Abort>(
+    rt: &R,
+    alloc: Global,
+    text: &str,
+    body: &str,
+    k: u64,
+    to: &mut Vec<u8>,
+) -> bool {
+    for word in body.split_whitespace() {
+        let is_put = match word.strip_prefix('{') {
+            Some(spelled) => put_number(rt, spelled, k, to),
+            None => put_word(rt, alloc, text, word, to),
+        };
+        if !is_put {
+            return false;
+        }
+    }
+    true
+}
+
+// Puts what stands before `}` as eight bytes.
+fn put_number<R: Abort>(rt: &R, spelled: &str, k: u64, to: &mut Vec<u8>) -> bool {
+    let Some(spelled) = spelled.strip_suffix('}') else {
+        return false;
+    };
+    let Some(value) = value_of(spelled, k) else {
+        return false;
+    };
+    to.extend_from_slice(&value.to_be_bytes())
+        .expect(rt, "memory");
+    true
+}
+
+// Puts a block: its gate, the length of its body, and the body, filled for this number.
+fn put_block<R: Abort>(
+    rt: &R,
+    alloc: Global,
+    text: &str,
+    body: &str,
+    k: u64,
+    to: &mut Vec<u8>,
+) -> bool {
     let mut bytes = Vec::new(alloc);
-    if !put_bytes(rt, alloc, text, body, &mut bytes) {
+    if !put_body(rt, alloc, text, body, k, &mut bytes) {
         return false;
     }
     let Ok(long) = u32::try_from(bytes.len()) else {
@@ -89,6 +155,25 @@ fn put_block<R: Abort>(rt: &R, alloc: Global, text: &str, body: &str, to: &mut V
     to.extend_from_slice(&long.to_be_bytes())
         .expect(rt, "memory");
     to.extend_from_slice(&bytes).expect(rt, "memory");
+    true
+}
+
+// Puts a block, or one for each of these numbers.
+fn put_blocks<R: Abort>(rt: &R, alloc: Global, text: &str, body: &str, to: &mut Vec<u8>) -> bool {
+    let Some(rest) = body.trim().strip_prefix("each ") else {
+        return put_block(rt, alloc, text, body, 0, to);
+    };
+    let Some((from, rest)) = number_of(rest) else {
+        return false;
+    };
+    let Some((past, body)) = number_of(rest) else {
+        return false;
+    };
+    for k in from..past {
+        if !put_block(rt, alloc, text, body, k, to) {
+            return false;
+        }
+    }
     true
 }
 
@@ -116,7 +201,7 @@ fn put_stream<R: Abort>(
         return false;
     };
     for body in bodies.split('/') {
-        if !body.is_empty() && !put_block(rt, alloc, text, body, to) {
+        if !body.is_empty() && !put_blocks(rt, alloc, text, body, to) {
             return false;
         }
     }
@@ -164,4 +249,41 @@ pub(crate) fn put_piece<R: Abort>(
         .expect(rt, "memory");
     to.extend_from_slice(&bytes).expect(rt, "memory");
     true
+}
+
+/// The text with the fields of the row, which have ` / ` between them, in the places of `%1`, `%2` .. Where there is none, they stay.
+pub(crate) fn filled<R: Abort>(rt: &R, alloc: Global, text: &str, row: &str) -> String {
+    let mut whole = String::new(alloc);
+    let mut sign = "";
+    for part in text.split('%') {
+        let (digit, rest) = part.split_at_checked(1).unwrap_or(("", part));
+        match field_of(row, digit) {
+            Some(field) if !sign.is_empty() => {
+                whole.push_str(field).expect(rt, "memory");
+                whole.push_str(rest).expect(rt, "memory");
+            }
+            _ => {
+                whole.push_str(sign).expect(rt, "memory");
+                whole.push_str(part).expect(rt, "memory");
+            }
+        }
+        sign = "%";
+    }
+    whole
+}
+
+// The field with this number, from 1.
+fn field_of<'t>(row: &'t str, digit: &str) -> Option<&'t str> {
+    let number = digit.parse::<u64>().ok()?;
+    if row.is_empty() {
+        return None;
+    }
+    let mut at = 0u64;
+    for field in row.split(" / ") {
+        at = at.wrapping_add(1);
+        if at == number {
+            return Some(field);
+        }
+    }
+    None
 }

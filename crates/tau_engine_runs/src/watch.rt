@@ -1,0 +1,167 @@
+//! A gate that counts how often each place of a call was reached, and holds threads at some until others were.
+use crate::spell::{number_of, word_of};
+use std::alloc::Global;
+use std::process::Abort;
+use std::sync::atomic::{AtomicU64, Ordering};
+use std::thread;
+use tau_disk::{Gate, Place};
+
+// The places that are told apart.
+const PLACES: &str =
+    "call-0 call-1 call-more commit-0 commit-1 commit-more flush-0 flush-1 flush-more replay-0 replay-1 replay-more ack";
+
+// Whether a name is that of the first one, the second one, or another one.
+fn kind_of(number: u8) -> usize {
+    match number {
+        0 => 0,
+        1 => 1,
+        _ => 2,
+    }
+}
+
+// Where a place stands among the names.
+fn index_of(place: Place) -> usize {
+    match place {
+        Place::Call { worker } => kind_of(worker),
+        Place::Commit { stream } => kind_of(stream).wrapping_add(3),
+        Place::Flush { stream } => kind_of(stream).wrapping_add(6),
+        Place::Replay { worker } => kind_of(worker).wrapping_add(9),
+        Place::Ack => 12,
+    }
+}
+
+// Where the name stands.
+fn index_of_name(name: &str) -> Option<usize> {
+    let mut at = 0usize;
+    for one in PLACES.split(' ') {
+        if one == name {
+            return Some(at);
+        }
+        at = at.wrapping_add(1);
+    }
+    None
+}
+
+// Who reaches a place for so many times waits until another place was reached so often.
+#[derive(Clone, Copy)]
+struct Hold {
+    place: usize,
+    times: u64,
+    other: usize,
+    wanted: u64,
+}
+
+fn hold_of(spelled: &str) -> Option<Hold> {
+    let (place, rest) = word_of(spelled);
+    let (times, rest) = number_of(rest)?;
+    let (other, wanted) = word_of(rest);
+    Some(Hold {
+        place: index_of_name(place)?,
+        times,
+        other: index_of_name(other)?,
+        wanted: wanted.parse::<u64>().ok()?,
+    })
+}
+
+/// How often each place was reached, who waits, and whether a wait ended in vain.
+#[derive(Drop)]
+pub(crate) struct Watch {
+    reached: Vec<AtomicU64>,
+    holds: Vec<Hold>,
+    late: AtomicU64,
+}
+
+impl Watch {
+    pub(crate) fn new<R: Abort>(rt: &R, alloc: Global) -> Watch {
+        let mut reached = Vec::new(alloc);
+        for _ in PLACES.split(' ') {
+            reached.push(AtomicU64::new(0)).expect(rt, "memory");
+        }
+        Watch {
+            reached,
+            holds: Vec::new(alloc),
+            late: AtomicU64::new(0),
+        }
+    }
+
+    /// Begins anew: nobody waits.
+    pub(crate) fn begin(&mut self) {
+        self.holds.clear();
+        for place in &self.reached {
+            place.store(0, Ordering::SeqCst);
+        }
+    }
+
+    /// Who waits: a place and the how manieth time, and another place and how often it is to be reached.
+    pub(crate) fn hold<R: Abort>(&mut self, rt: &R, spelled: &str) -> bool {
+        let Some(hold) = hold_of(spelled) else {
+            return false;
+        };
+        self.holds.push(hold).expect(rt, "memory");
+        true
+    }
+
+    // How often the place was reached.
+    fn count(&self, place: usize) -> u64 {
+        match self.reached.get(place) {
+            Some(counter) => counter.load(Ordering::SeqCst),
+            None => 0,
+        }
+    }
+
+    // One more; how often it was reached then.
+    fn reach(&self, place: usize) -> u64 {
+        match self.reached.get(place) {
+            Some(counter) => counter.fetch_add(1, Ordering::SeqCst).wrapping_add(1),
+            None => 0,
+        }
+    }
+
+    fn wait(&self, hold: &Hold) {
+        for _ in 0..1_000_000_000u64 {
+            if self.count(hold.other) >= hold.wanted {
+                return;
+            }
+            thread::yield_now();
+        }
+        self.late.store(1, Ordering::SeqCst);
+    }
+
+    /// Whether no wait ended in vain.
+    pub(crate) fn is_in_time(&self) -> bool {
+        self.late.load(Ordering::SeqCst) == 0
+    }
+
+    // How often the places whose names begin so were reached.
+    fn sum(&self, start: &str) -> u64 {
+        let mut sum = 0u64;
+        let mut at = 0usize;
+        for name in PLACES.split(' ') {
+            if name.starts_with(start) {
+                sum = sum.wrapping_add(self.count(at));
+            }
+            at = at.wrapping_add(1);
+        }
+        sum
+    }
+
+    /// Whether the places whose names begin so were reached so often at least.
+    pub(crate) fn has_reached(&self, spelled: &str) -> bool {
+        match number_of(spelled) {
+            Some((wanted, start)) => wanted != 0 && self.sum(start) >= wanted,
+            None => false,
+        }
+    }
+}
+
+impl Gate for Watch {
+    fn at(&self, place: Place) {
+        let place = index_of(place);
+        let times = self.reach(place);
+        for hold in &self.holds {
+            if hold.place == place && hold.times == times {
+                self.wait(hold);
+            }
+        }
+    }
+}
