@@ -2,13 +2,21 @@
 #![tactic(auto)]
 
 #[cfg(test)]
+mod audit_refusals;
+#[cfg(test)]
+mod audits;
+#[cfg(test)]
 mod benches;
 #[cfg(test)]
 mod drills;
 #[cfg(test)]
-mod endings;
-#[cfg(test)]
 mod faults;
+#[cfg(test)]
+mod feed_faults;
+#[cfg(test)]
+mod feeds;
+#[cfg(test)]
+mod inspections;
 #[cfg(test)]
 mod lines;
 #[cfg(test)]
@@ -23,6 +31,10 @@ mod reopened;
 mod runs;
 #[cfg(test)]
 mod scenes;
+#[cfg(test)]
+mod slot_stops;
+#[cfg(test)]
+mod slots;
 #[cfg(test)]
 mod spell;
 #[cfg(test)]

@@ -11,18 +11,17 @@
 //!   `tear new`, `tear torn` leaves of all disks what a stop would leave. An IMAGE is `bytes BYTES`, or `stream FORMAT STREAMS NUMBER BODY / BODY ..`:
 //!   the header of a stream, and its blocks; `each FROM PAST BODY` is a block for each number, `{k}` in it eight bytes.
 //! - `> WORDS` begins a call. Its source is what comes then: `| LINES` (`|- LINE` is one with no end), `each FROM PAST LINES` for each number
-//!   (`repeat FROM PAST TEXT` with no end), `+ BYTES`, `piece J BYTES` of a stream, `told` (what the call before told). Of its source and its sink these calls fail: `source K ..`, `sink K ..`.
-//!   `hold PLACE N PLACE M` holds who reaches the first place for the Nth time until the other was reached M times; a PLACE is `call-J` or
-//!   `replay-J` of a worker, `commit-J` or `flush-J` of a stream, or `ack`.
-//! - `= CODE` makes the call, which ends with this code. All of what it told has to be looked at: `< LINES` are the next lines, `times N LINE`
-//!   this one N times, `^ WORDS` how the next one begins, `~ LINES` some of the next ones, in whichever order. Or it is looked at as a whole:
-//!   `has LINES` one after another, `count N WORDS`, lines that begin so, `sum N WORDS`, of the numbers at their ends, `where WORDS ; LINE`, that
-//!   if one begins so, the other is there too. `keep` keeps it all, and `kept` says that the rest is what was kept. `= any` makes a call
-//!   that ends as it may, and tells what it may. `ended disk J` and `ended kind J AT` say more of how it ended: that disk failed, or there
-//!   is a record of a bad kind. `reached N PLACE` says how often the places that begin so were reached at least.
+//!   (`repeat FROM PAST TEXT` with no end), `+ BYTES`, `piece J BYTES` of a stream, `told` (what the call before told). Of its source and
+//!   its sink these calls fail: `source K ..`, `sink K ..`. `hold PLACE N PLACE M` holds who reaches the first place for the Nth time until
+//!   the other was reached M times; a PLACE is `call-J` or `replay-J` of a worker, `commit-J` or `flush-J` of a stream, or `ack`.
+//! - `= CODE` makes the call, which ends with this code. All of what it told has to be looked at: `< LINES` are the next lines, `~ LINES` some
+//!   of the next ones, in whichever order. Or it is looked at as a whole: `has LINES` one after another, `count N WORDS`, lines that begin
+//!   so, `sum N WORDS`, of the numbers at their ends, `where WORDS ; LINE`, that if one begins so, the other is there too. `keep` keeps it
+//!   all, and `kept WORDS` says that it begins with a line that begins so, after which it is what was kept. `= any` makes a call that ends
+//!   as it may, and tells what it may. `same` says that the call ended as the one before it, for the same cause. `reached N PLACE` says how
+//!   often the places that begin so were reached at least.
 //! - `had J N` and `held J IMAGE` look at a disk: how many calls it has had, and what it holds; `last J N BYTES` at what begins N bytes before
 //!   its end. `idle` says that no disk was called.
-use crate::endings::is_status;
 use crate::lines::{after, are_told, begins, first_of, is_count, is_implied, is_sum, lines_of};
 use crate::number::{put_lines, put_template};
 use crate::spell::{
@@ -63,8 +62,9 @@ struct Stage<'t> {
     seen: usize,
     // What was told before, and kept.
     kept: Vec<u8>,
-    // How the last call ended.
+    // How the last call ended, and the one before it.
     status: Option<Status>,
+    before: Option<Status>,
     calls: u64,
     watch: Watch,
     // The line of a part that is played.
@@ -102,6 +102,7 @@ impl<'t> Stage<'t> {
             seen: 0,
             kept: Vec::new(alloc),
             status: None,
+            before: None,
             calls: 0,
             watch: Watch::new(rt, alloc),
             part: "",
@@ -268,6 +269,7 @@ impl<'t> Stage<'t> {
             &mut self.disks,
             &self.watch,
         );
+        self.before = self.status;
         self.status = Some(status);
         Some(status.code())
     }
@@ -316,26 +318,6 @@ impl<'t> Stage<'t> {
         true
     }
 
-    // The next lines that were told are this one, so many times.
-    fn next_are(&mut self, rest: &str) -> bool {
-        let Some((count, line)) = number_of(rest) else {
-            return false;
-        };
-        for _ in 0..count {
-            if !self.next_is(line) {
-                return false;
-            }
-        }
-        true
-    }
-
-    // The next line that was told begins with these words.
-    fn next_begins(&mut self, words: &str) -> bool {
-        let line = first_of(self.told.get(self.seen..).unwrap_or(&[]));
-        self.seen = self.seen.wrapping_add(line.len()).wrapping_add(1);
-        begins(line, words)
-    }
-
     // These are some of the next lines.
     fn has_next(&mut self, lines: &str) -> bool {
         let Some(lines) = lines_of(self.text, lines) else {
@@ -358,12 +340,12 @@ impl<'t> Stage<'t> {
         true
     }
 
-    // The rest of what was told is what was kept.
-    fn is_kept(&mut self) -> bool {
-        let rest = self.told.get(self.seen..);
-        let is_same = rest == Some(self.kept.as_slice());
+    // After a first line that begins with these words, what was told is what was kept.
+    fn is_kept(&mut self, words: &str) -> bool {
         self.seen = self.told.len();
-        is_same
+        let line = first_of(&self.told);
+        let rest = self.told.get(line.len().wrapping_add(1)..);
+        begins(line, words) && rest == Some(self.kept.as_slice())
     }
 
     // What is said of all that was told.
@@ -376,14 +358,6 @@ impl<'t> Stage<'t> {
             "sum" => is_sum(told, rest),
             "where" => is_implied(told, rest),
             _ => false,
-        }
-    }
-
-    // The last call ended so.
-    fn has_ended(&self, spelled: &str) -> bool {
-        match self.status {
-            Some(status) => is_status(status, spelled),
-            None => false,
         }
     }
 
@@ -495,7 +469,7 @@ impl<'t> Stage<'t> {
             "held" => Some(self.held(rt, alloc, rest)),
             "last" => self.ends_with(rt, alloc, rest),
             "idle" => Some(self.is_idle()),
-            "ended" => Some(self.has_ended(rest)),
+            "same" => Some(self.status == self.before),
             "reached" => Some(self.watch.has_reached(rest)),
             _ => None,
         }
@@ -505,11 +479,9 @@ impl<'t> Stage<'t> {
     fn look<R: Abort>(&mut self, rt: &R, word: &str, rest: &str) -> bool {
         match word {
             "<" => self.next_is(rest),
-            "^" => self.next_begins(rest),
-            "times" => self.next_are(rest),
             "~" => self.has_next(rest),
             "keep" => self.keep(rt),
-            "kept" => self.is_kept(),
+            "kept" => self.is_kept(rest),
             _ => self.look_whole(word, rest),
         }
     }
