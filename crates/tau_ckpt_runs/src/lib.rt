@@ -2,9 +2,13 @@
 #![tactic(auto)]
 
 #[cfg(test)]
-mod choices;
-#[cfg(test)]
 mod logs;
+#[cfg(test)]
+mod names;
+#[cfg(test)]
+mod play;
+#[cfg(test)]
+mod rows;
 #[cfg(test)]
 mod slots;
 #[cfg(test)]
