@@ -29,18 +29,18 @@ play-requires-clause-calls g c κs within = subst (λ (l : Workload). AreCalls l
 
 pub recovered-requires-clause-ordered : goal.recovered-requires-clause-ordered
 recovered-requires-clause-ordered g c κs within =
-    let old_count : length c.args.disks.old.items ≡ c.args.job.streams = (let e = c.requires.count in omega (arith, e)) in
+    let old_count : length c.args.disks.now.items ≡ c.args.job.streams = (let e = c.requires.count in omega (arith, e)) in
     let new_count : length c.play.new.disks.items ≡ c.args.job.streams = (let e = c.in_ok-rows.ensures.count in omega (arith, e)) in
     subst (λ (ds : List MemDisk). (log : Log) × (log_of (Some One) (map seen_by ds) ≡ Ok log) × (order : List Kept) × IsOrderOf log order) (sym c.as_mut_slice.ensures.value)
-    (can_recover tt image_left c.args.job.streams c.args.job.workers c.args.job.start c.args.job.calls c.requires.calls c.args.load.now c.requires.load c.args.disks.old.items c.play.new.disks.items old_count new_count _ c.in_ok-rows.rows c.in_ok-rows.ensures.told)
+    (can_recover tt image_left c.args.job.streams c.args.job.workers c.args.job.start c.args.job.calls c.requires.calls c.args.load.now c.requires.load c.args.disks.now.items c.play.new.disks.items old_count new_count _ c.in_ok-rows.rows c.in_ok-rows.ensures.told)
 
 pub returns : goal.returns
 returns g c =
-    let old_count : length c.args.disks.old.items ≡ c.args.job.streams = (let e = c.requires.count in omega (arith, e)) in
+    let old_count : length c.args.disks.now.items ≡ c.args.job.streams = (let e = c.requires.count in omega (arith, e)) in
     let new_count : length c.play.new.disks.items ≡ c.args.job.streams = (let e = c.in_ok-rows.ensures.count in omega (arith, e)) in
-    let rows = rows_are tt image_left c.args.job.streams c.args.job.workers c.args.job.start c.args.job.calls c.requires.calls c.args.load.now c.requires.load c.args.disks.old.items c.play.new.disks.items old_count new_count _ c.in_ok-rows.rows c.in_ok-rows.ensures.told in
-    let acks = acks_are tt image_left c.args.job.streams c.args.job.workers c.args.job.start c.args.job.calls c.requires.calls c.args.load.now c.requires.load c.args.disks.old.items c.play.new.disks.items old_count new_count _ c.in_ok-rows.rows c.in_ok-rows.ensures.told in
-    let again = found_are tt image_left c.args.job.streams c.args.job.workers c.args.job.start c.args.job.calls c.requires.calls c.args.load.now c.requires.load c.args.disks.old.items c.play.new.disks.items old_count new_count _ c.in_ok-rows.rows c.in_ok-rows.ensures.told
+    let rows = rows_are tt image_left c.args.job.streams c.args.job.workers c.args.job.start c.args.job.calls c.requires.calls c.args.load.now c.requires.load c.args.disks.now.items c.play.new.disks.items old_count new_count _ c.in_ok-rows.rows c.in_ok-rows.ensures.told in
+    let acks = acks_are tt image_left c.args.job.streams c.args.job.workers c.args.job.start c.args.job.calls c.requires.calls c.args.load.now c.requires.load c.args.disks.now.items c.play.new.disks.items old_count new_count _ c.in_ok-rows.rows c.in_ok-rows.ensures.told in
+    let again = found_are tt image_left c.args.job.streams c.args.job.workers c.args.job.start c.args.job.calls c.requires.calls c.args.load.now c.requires.load c.args.disks.now.items c.play.new.disks.items old_count new_count _ c.in_ok-rows.rows c.in_ok-rows.ensures.told
     c.in_ok-again.again (subst (λ (ds : List MemDisk). AreFound ds c.in_ok-again.again) c.as_mut_slice.ensures.value c.in_ok-again.ensures) in
     let told = c.in_ok-rows.ensures.told.rehearsed.acked tt ∙ ap (λ (h : List ℕ). h ++ ack_lines c.in_ok-rows.ensures.told.rehearsed.facts.run.acks) c.requires.empty in
     let acked : c.lines_in-acked.result ≡ c.args.job.calls = c.lines_in-acked.ensures ∙ ap lines_in (c.bytes.ensures ∙ told) ∙ in_acks c.in_ok-rows.ensures.told.rehearsed.facts.run.acks ∙ acks in
