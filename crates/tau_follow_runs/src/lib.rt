@@ -2,16 +2,10 @@
 #![tactic(auto)]
 
 #[cfg(test)]
-mod changes;
+mod bytes;
 #[cfg(test)]
 mod contents;
 #[cfg(test)]
-mod cuts;
+mod play;
 #[cfg(test)]
-mod epochs;
-#[cfg(test)]
-mod faults;
-#[cfg(test)]
-mod rows;
-#[cfg(test)]
-mod support;
+mod scenes;
