@@ -34,14 +34,8 @@ pub(crate) fn value_of(spelled: &str, k: u64) -> Option<u64> {
 // The one of these choices, with `|` between them, that is that of this number, which goes round them.
 fn choice_of(spelled: &str, k: u64) -> &str {
     let count = spelled.split('|').count() as u64;
-    let mut left = k.checked_rem(count).unwrap_or(0);
-    for choice in spelled.split('|') {
-        if left == 0 {
-            return choice;
-        }
-        left = left.wrapping_sub(1);
-    }
-    ""
+    let place = k.checked_rem(count).unwrap_or(0);
+    spelled.split('|').nth(place as usize).unwrap_or("")
 }
 
 // Puts what stands between `{` and `}`.
@@ -59,6 +53,16 @@ fn put_one<R: Abort>(rt: &R, alloc: Global, spelled: &str, k: u64, to: &mut Vec<
     true
 }
 
+// Puts what stands between `{` and `}`, and what comes after it.
+fn put_part<R: Abort>(rt: &R, alloc: Global, part: &str, k: u64, to: &mut Vec<u8>) -> bool {
+    let Some((spelled, rest)) = part.split_once('}') else {
+        return false;
+    };
+    let is_put = put_one(rt, alloc, spelled, k, to);
+    to.extend_from_slice(rest.as_bytes()).expect(rt, "memory");
+    is_put
+}
+
 /// Puts the template, filled for this number.
 pub(crate) fn put_template<R: Abort>(
     rt: &R,
@@ -67,33 +71,15 @@ pub(crate) fn put_template<R: Abort>(
     k: u64,
     to: &mut Vec<u8>,
 ) -> bool {
-    let mut is_put = true;
-    for piece in template.split('{') {
-        let rest = match piece.split_once('}') {
-            Some((spelled, rest)) => {
-                is_put = is_put && put_one(rt, alloc, spelled, k, to);
-                rest
-            }
-            None => piece,
-        };
-        to.extend_from_slice(rest.as_bytes()).expect(rt, "memory");
+    let (first, rest) = template.split_once('{').unwrap_or((template, ""));
+    to.extend_from_slice(first.as_bytes()).expect(rt, "memory");
+    if rest.is_empty() {
+        return first.len() == template.len();
     }
-    is_put
-}
-
-/// Puts lines, filled for this number, each with this end.
-pub(crate) fn put_lines<R: Abort>(
-    rt: &R,
-    alloc: Global,
-    lines: &str,
-    k: u64,
-    end: &[u8],
-    to: &mut Vec<u8>,
-) -> bool {
-    let mut is_put = true;
-    for line in lines.split(" ; ") {
-        is_put = is_put && put_template(rt, alloc, line, k, to);
-        to.extend_from_slice(end).expect(rt, "memory");
+    for part in rest.split('{') {
+        if !put_part(rt, alloc, part, k, to) {
+            return false;
+        }
     }
-    is_put
+    true
 }

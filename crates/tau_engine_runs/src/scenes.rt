@@ -2,7 +2,8 @@
 //! `== TITLE`, and each of its parts is a scene: its lines begin with a word and are done in turn.
 //!
 //! - `row FIELD / FIELD ..` is no line of a scene, which is played with each of its rows, or once if it has none: `%1`, `%2` .. stand for
-//!   the fields. `rows FROM PAST FIELDS` is a row for each number from one to before the other, for which `{k}` stands in it.
+//!   the fields. `rows FROM PAST FIELDS` is a row for each number from one to before the other: `{k}` stands for the number, `{k*5:8+1}` for
+//!   what is worked out from left to right (`:` is what a division leaves), and `{a|b|c}` for one of these, which it goes round.
 //! - `#` is a comment. `$name DIGITS` names bytes in hexadecimal digits, which other lines spell by `$name`, or `$name:FROM:PAST` for a range
 //!   of them; `@name LINES` names lines. LINES have ` ; ` between them. `do NAME` does what the lines `part NAME LINE` say. All scenes of a
 //!   text know its names.
@@ -19,11 +20,11 @@
 //!   so, `sum N WORDS`, of the numbers at their ends, `where WORDS ; LINE`, that if one begins so, the other is there too. `keep` keeps it
 //!   all, and `kept WORDS` says that it begins with a line that begins so, after which it is what was kept. `= any` makes a call that ends
 //!   as it may, and tells what it may. `same` says that the call ended as the one before it, for the same cause. `reached N PLACE` says how
-//!   often the places that begin so were reached at least.
+//!   often a place, or all of a kind, were reached at least.
 //! - `had J N` and `held J IMAGE` look at a disk: how many calls it has had, and what it holds; `last J N BYTES` at what begins N bytes before
 //!   its end. `idle` says that no disk was called.
-use crate::lines::{after, are_told, begins, first_of, is_count, is_implied, is_sum, lines_of};
-use crate::number::{put_lines, put_template};
+use crate::lines::{are_told, begins, first_of, has_one, is_count, is_sum, spelled_lines};
+use crate::number::put_template;
 use crate::spell::{
     filled, image_of, number_of, numbers_of, put_bytes, put_piece, word_of, words_of,
 };
@@ -169,7 +170,7 @@ impl<'t> Stage<'t> {
         let before = image.get(..from as usize)?;
         let after = image.get(past as usize..)?;
         let mut other = Vec::from_slice(alloc, before).expect(rt, "memory");
-        if !put_bytes(rt, alloc, self.text, spelled, &mut other) {
+        if !put_bytes(rt, alloc, self.text, spelled, 0, &mut other) {
             return None;
         }
         other.extend_from_slice(after).expect(rt, "memory");
@@ -203,49 +204,56 @@ impl<'t> Stage<'t> {
     }
 
     // Begins a call of these words.
-    fn call(&mut self, words: &'t str) -> bool {
+    fn call<R: Abort>(&mut self, rt: &R, alloc: Global, words: &'t str) -> bool {
         self.words = words;
         self.is_made = false;
         self.source.clear();
         self.source_fails = "";
         self.sink_fails = "";
-        self.watch.begin();
+        self.watch = Watch::new(rt, alloc);
         true
     }
 
-    fn add<R: Abort>(&mut self, rt: &R, bytes: &[u8], end: &[u8]) -> bool {
-        self.source.extend_from_slice(bytes).expect(rt, "memory");
-        self.source.extend_from_slice(end).expect(rt, "memory");
+    fn add<R: Abort>(&mut self, rt: &R, text: &str) -> bool {
+        self.source
+            .extend_from_slice(text.as_bytes())
+            .expect(rt, "memory");
         true
     }
 
-    fn add_lines<R: Abort>(&mut self, rt: &R, lines: &str) -> bool {
-        let Some(lines) = lines_of(self.text, lines) else {
-            return false;
-        };
-        for line in lines.split(" ; ") {
-            self.source
-                .extend_from_slice(line.as_bytes())
-                .expect(rt, "memory");
-            self.source.push(b'\n').expect(rt, "memory");
+    fn add_lines<R: Abort>(&mut self, rt: &R, alloc: Global, lines: &str) -> bool {
+        match spelled_lines(rt, alloc, self.text, lines) {
+            Some(lines) => self.add(rt, &lines),
+            None => false,
         }
-        true
     }
 
-    // Adds lines for each of these numbers.
-    fn repeat<R: Abort>(&mut self, rt: &R, alloc: Global, rest: &str, end: &[u8]) -> bool {
-        let Some((from, rest)) = number_of(rest) else {
-            return false;
-        };
-        let Some((past, lines)) = number_of(rest) else {
-            return false;
-        };
+    // Adds the template for each of these numbers.
+    fn add_each<R: Abort>(
+        &mut self,
+        rt: &R,
+        alloc: Global,
+        from: u64,
+        past: u64,
+        template: &str,
+    ) -> bool {
         for k in from..past {
-            if !put_lines(rt, alloc, lines, k, end, &mut self.source) {
+            if !put_template(rt, alloc, template, k, &mut self.source) {
                 return false;
             }
         }
         from < past
+    }
+
+    // Adds lines for each of these numbers, or a text.
+    fn repeat<R: Abort>(&mut self, rt: &R, alloc: Global, word: &str, rest: &str) -> Option<bool> {
+        let (from, rest) = number_of(rest)?;
+        let (past, rest) = number_of(rest)?;
+        if word == "repeat" {
+            return Some(self.add_each(rt, alloc, from, past, rest));
+        }
+        let lines = spelled_lines(rt, alloc, self.text, rest)?;
+        Some(self.add_each(rt, alloc, from, past, &lines))
     }
 
     // Makes the call over this source and this sink.
@@ -307,29 +315,23 @@ impl<'t> Stage<'t> {
     }
 
     // The next lines that were told are these.
-    fn next_is(&mut self, lines: &str) -> bool {
-        let Some(lines) = lines_of(self.text, lines) else {
+    fn next_is<R: Abort>(&mut self, rt: &R, alloc: Global, lines: &str) -> bool {
+        let Some(lines) = spelled_lines(rt, alloc, self.text, lines) else {
             return false;
         };
-        let Some(rest) = after(self.told.get(self.seen..).unwrap_or(&[]), lines) else {
-            return false;
-        };
-        self.seen = self.told.len().wrapping_sub(rest.len());
-        true
+        let rest = self.told.get(self.seen..).unwrap_or(&[]);
+        let is_next = rest.starts_with(lines.as_bytes());
+        self.seen = self.seen.wrapping_add(lines.len());
+        is_next
     }
 
     // These are some of the next lines.
-    fn has_next(&mut self, lines: &str) -> bool {
-        let Some(lines) = lines_of(self.text, lines) else {
+    fn has_next<R: Abort>(&mut self, rt: &R, alloc: Global, lines: &str) -> bool {
+        let Some(lines) = spelled_lines(rt, alloc, self.text, lines) else {
             return false;
         };
-        for line in lines.split(" ; ") {
-            if !are_told(&self.told, line) {
-                return false;
-            }
-            self.seen = self.seen.wrapping_add(line.len()).wrapping_add(1);
-        }
-        true
+        self.seen = self.seen.wrapping_add(lines.len());
+        are_told(rt, alloc, &self.told, &lines)
     }
 
     // Keeps what was told.
@@ -348,15 +350,29 @@ impl<'t> Stage<'t> {
         begins(line, words) && rest == Some(self.kept.as_slice())
     }
 
-    // What is said of all that was told.
-    fn look_whole(&mut self, word: &str, rest: &str) -> bool {
+    // Of all that was told, lines are these.
+    fn has<R: Abort>(&mut self, rt: &R, alloc: Global, lines: &str) -> bool {
+        self.seen = 0;
+        let is_so = self.has_next(rt, alloc, lines);
         self.seen = self.told.len();
-        let told = self.told.as_slice();
+        is_so
+    }
+
+    // If a line begins with the words before ` ; `, the line after it was told.
+    fn has_where<R: Abort>(&mut self, rt: &R, alloc: Global, rest: &str) -> bool {
+        let Some((words, line)) = rest.split_once(" ; ") else {
+            return false;
+        };
+        self.seen = self.told.len();
+        !has_one(&self.told, words) || self.has(rt, alloc, line)
+    }
+
+    // How many lines begin with words, and their sum.
+    fn has_tally(&mut self, word: &str, rest: &str) -> bool {
+        self.seen = self.told.len();
         match word {
-            "has" => are_told(told, rest),
-            "count" => is_count(told, rest),
-            "sum" => is_sum(told, rest),
-            "where" => is_implied(told, rest),
+            "count" => is_count(&self.told, rest),
+            "sum" => is_sum(&self.told, rest),
             _ => false,
         }
     }
@@ -392,7 +408,7 @@ impl<'t> Stage<'t> {
         let (back, spelled) = number_of(rest)?;
         let image = image_at(rt, &self.disks, place)?;
         let mut wanted = Vec::new(alloc);
-        if !put_bytes(rt, alloc, self.text, spelled, &mut wanted) {
+        if !put_bytes(rt, alloc, self.text, spelled, 0, &mut wanted) {
             return None;
         }
         let from = image.len().checked_sub(back as usize)?;
@@ -437,12 +453,11 @@ impl<'t> Stage<'t> {
         rest: &'t str,
     ) -> Option<bool> {
         Some(match word {
-            "|" => self.add_lines(rt, rest),
-            "|-" => self.add(rt, rest.as_bytes(), b""),
-            "+" => put_bytes(rt, alloc, self.text, rest, &mut self.source),
+            "|" => self.add_lines(rt, alloc, rest),
+            "|-" => self.add(rt, rest),
+            "+" => put_bytes(rt, alloc, self.text, rest, 0, &mut self.source),
             "piece" => put_piece(rt, alloc, self.text, rest, &mut self.source),
-            "each" => self.repeat(rt, alloc, rest, b"\n"),
-            "repeat" => self.repeat(rt, alloc, rest, b""),
+            "each" | "repeat" => return self.repeat(rt, alloc, word, rest),
             "hold" => self.watch.hold(rt, rest),
             "told" => {
                 self.source
@@ -470,19 +485,21 @@ impl<'t> Stage<'t> {
             "last" => self.ends_with(rt, alloc, rest),
             "idle" => Some(self.is_idle()),
             "same" => Some(self.status == self.before),
-            "reached" => Some(self.watch.has_reached(rest)),
+            "reached" => self.watch.has_reached(rest),
             _ => None,
         }
     }
 
     // What is said of what was told.
-    fn look<R: Abort>(&mut self, rt: &R, word: &str, rest: &str) -> bool {
+    fn look<R: Abort>(&mut self, rt: &R, alloc: Global, word: &str, rest: &str) -> bool {
         match word {
-            "<" => self.next_is(rest),
-            "~" => self.has_next(rest),
+            "<" => self.next_is(rt, alloc, rest),
+            "~" => self.has_next(rt, alloc, rest),
+            "has" => self.has(rt, alloc, rest),
+            "where" => self.has_where(rt, alloc, rest),
             "keep" => self.keep(rt),
             "kept" => self.is_kept(rest),
-            _ => self.look_whole(word, rest),
+            _ => self.has_tally(word, rest),
         }
     }
 
@@ -501,7 +518,7 @@ impl<'t> Stage<'t> {
     ) -> bool {
         match word {
             _ if rest.contains('%') => false,
-            ">" => self.is_settled() && self.call(rest),
+            ">" => self.is_settled() && self.call(rt, alloc, rest),
             "=" => !self.is_made && self.make(rt, alloc, rest),
             _ => match self.prepare(rt, alloc, word, rest) {
                 Some(done) => done && self.is_settled(),
@@ -557,7 +574,7 @@ impl<'t> Stage<'t> {
             Some(done) => done,
             None => match self.look_beside(rt, alloc, word, rest) {
                 Some(is_so) => is_so,
-                None => self.look(rt, word, rest),
+                None => self.look(rt, alloc, word, rest),
             },
         }
     }

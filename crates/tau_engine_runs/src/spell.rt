@@ -33,8 +33,8 @@ pub(crate) fn numbers_of<R: Abort>(rt: &R, alloc: Global, text: &str) -> Option<
     Some(numbers)
 }
 
-/// The digits that stand behind this name.
-fn named<'t>(text: &'t str, name: &str) -> Option<&'t str> {
+/// What stands behind this name, at the beginning of a line.
+pub(crate) fn named<'t>(text: &'t str, name: &str) -> Option<&'t str> {
     for line in text.lines() {
         let (word, rest) = word_of(line);
         if word == name {
@@ -44,14 +44,13 @@ fn named<'t>(text: &'t str, name: &str) -> Option<&'t str> {
     None
 }
 
-/// Puts the bytes of hexadecimal digits, in words with spaces between them.
+// Puts the bytes of hexadecimal digits, between which there may be spaces.
 fn put_digits<R: Abort>(rt: &R, alloc: Global, digits: &str, to: &mut Vec<u8>) -> bool {
-    for word in digits.split_whitespace() {
-        let Ok(bytes) = hex::decode(alloc, word) else {
-            return false;
-        };
-        to.extend_from_slice(&bytes).expect(rt, "memory");
-    }
+    let digits = digits.replace(alloc, " ", "").expect(rt, "memory");
+    let Ok(bytes) = hex::decode(alloc, &digits) else {
+        return false;
+    };
+    to.extend_from_slice(&bytes).expect(rt, "memory");
     true
 }
 
@@ -85,32 +84,17 @@ fn put_word<R: Abort>(rt: &R, alloc: Global, text: &str, word: &str, to: &mut Ve
     }
 }
 
-/// Puts spelled bytes: hexadecimal digits, names of such digits in the text, and ranges `$name:FROM:PAST` of named ones.
+/// Puts spelled bytes: hexadecimal digits, names of such digits in the text, ranges `$name:FROM:PAST` of named ones, and numbers `{ }` worked
+/// out for this one.
 pub(crate) fn put_bytes<R: Abort>(
     rt: &R,
     alloc: Global,
     text: &str,
     spelled: &str,
-    to: &mut Vec<u8>,
-) -> bool {
-    for word in spelled.split_whitespace() {
-        if !put_word(rt, alloc, text, word, to) {
-            return false;
-        }
-    }
-    true
-}
-
-// Puts the bytes of a body, `{ }` in it filled for this number.
-fn put_body<R: Abort>(
-    rt: &R,
-    alloc: Global,
-    text: &str,
-    body: &str,
     k: u64,
     to: &mut Vec<u8>,
 ) -> bool {
-    for word in body.split_whitespace() {
+    for word in spelled.split_whitespace() {
         let is_put = match word.strip_prefix('{') {
             Some(spelled) => put_number(rt, spelled, k, to),
             None => put_word(rt, alloc, text, word, to),
@@ -145,7 +129,7 @@ fn put_block<R: Abort>(
     to: &mut Vec<u8>,
 ) -> bool {
     let mut bytes = Vec::new(alloc);
-    if !put_body(rt, alloc, text, body, k, &mut bytes) {
+    if !put_bytes(rt, alloc, text, body, k, &mut bytes) {
         return false;
     }
     let Ok(long) = u32::try_from(bytes.len()) else {
@@ -219,7 +203,7 @@ pub(crate) fn image_of<R: Abort>(
     let mut image = Vec::new(alloc);
     let (word, rest) = word_of(spelled);
     let is_spelled = match word {
-        "bytes" => put_bytes(rt, alloc, text, rest, &mut image),
+        "bytes" => put_bytes(rt, alloc, text, rest, 0, &mut image),
         "stream" => put_stream(rt, alloc, text, rest, &mut image),
         _ => false,
     };
@@ -238,7 +222,7 @@ pub(crate) fn put_piece<R: Abort>(
         return false;
     };
     let mut bytes = Vec::new(alloc);
-    if !put_bytes(rt, alloc, text, rest, &mut bytes) {
+    if !put_bytes(rt, alloc, text, rest, 0, &mut bytes) {
         return false;
     }
     let Ok(long) = u32::try_from(bytes.len()) else {
@@ -254,36 +238,34 @@ pub(crate) fn put_piece<R: Abort>(
 /// The text with the fields of the row, which have ` / ` between them, in the places of `%1`, `%2` .. Where there is none, they stay.
 pub(crate) fn filled<R: Abort>(rt: &R, alloc: Global, text: &str, row: &str) -> String {
     let mut whole = String::new(alloc);
-    let mut sign = "";
+    let mut is_first = true;
     for part in text.split('%') {
-        let (digit, rest) = part.split_at_checked(1).unwrap_or(("", part));
-        match field_of(row, digit) {
-            Some(field) if !sign.is_empty() => {
-                whole.push_str(field).expect(rt, "memory");
-                whole.push_str(rest).expect(rt, "memory");
-            }
-            _ => {
-                whole.push_str(sign).expect(rt, "memory");
-                whole.push_str(part).expect(rt, "memory");
-            }
+        if is_first {
+            whole.push_str(part).expect(rt, "memory");
+        } else {
+            put_field(rt, row, part, &mut whole);
         }
-        sign = "%";
+        is_first = false;
     }
     whole
 }
 
+// Puts the field with the number with which the part begins, and the rest of the part.
+fn put_field<R: Abort>(rt: &R, row: &str, part: &str, to: &mut String) {
+    let (digit, rest) = part.split_at_checked(1).unwrap_or(("", part));
+    let (field, rest) = match field_of(row, digit) {
+        Some(field) => (field, rest),
+        None => ("%", part),
+    };
+    to.push_str(field).expect(rt, "memory");
+    to.push_str(rest).expect(rt, "memory");
+}
+
 // The field with this number, from 1.
 fn field_of<'t>(row: &'t str, digit: &str) -> Option<&'t str> {
-    let number = digit.parse::<u64>().ok()?;
     if row.is_empty() {
         return None;
     }
-    let mut at = 0u64;
-    for field in row.split(" / ") {
-        at = at.wrapping_add(1);
-        if at == number {
-            return Some(field);
-        }
-    }
-    None
+    let number = digit.parse::<usize>().ok()?;
+    row.split(" / ").nth(number.checked_sub(1)?)
 }

@@ -34,7 +34,8 @@ new
 > %1
 | table a ; put a 1 5 ; put a 2 6
 = 0
-~ ack 1 53,0 ; ack 2 0,53
+~ ack 1 53,0
+~ ack 2 0,53
 < reply 1 none ; reply 2 none ; order 1 ; order 2 ; row a 1 int 5 ; row a 2 int 6 ; end 0
 held 0 stream 1 2 0 $catalogue / $first
 held 1 stream 1 2 1 $catalogue / $second
@@ -82,17 +83,20 @@ reached 1 replay-1
 
 == two workers put into two streams twice each, and are held
 @four_puts table a ; put a 1 5 ; put a 2 6 ; put a 3 7 ; put a 4 8
-@acks ack 1 53,0 ; ack 2 0,53 ; ack 3 93,0 ; ack 4 0,93
-@rest reply 1 none ; reply 2 none ; reply 3 none ; reply 4 none ; order 1 ; order 3 ; order 2 ; order 4 ; row a 1 int 5 ; row a 2 int 6 ; row a 3 int 7 ; row a 4 int 8 ; end 0
+# They are acknowledged in some order.
+part acknowledged = 0
+part acknowledged ~ ack 1 53,0
+part acknowledged ~ ack 2 0,53
+part acknowledged ~ ack 3 93,0
+part acknowledged ~ ack 4 0,93
+part acknowledged < reply 1 none ; reply 2 none ; reply 3 none ; reply 4 none ; order 1 ; order 3 ; order 2 ; order 4 ; row a 1 int 5 ; row a 2 int 6 ; row a 3 int 7 ; row a 4 int 8 ; end 0
 # At once: the first record of each stream is held until that of the other was reached.
 new
 > run 2 2
 | @four_puts
 hold commit-0 1 commit-1 1
 hold commit-1 1 commit-0 1
-= 0
-~ @acks
-< @rest
+do acknowledged
 # A flush lets the other stream commit: the second call of worker 1 is held until a flush of stream 0 was reached, and that flush until
 # the second record of stream 1.
 new
@@ -100,17 +104,13 @@ new
 | @four_puts
 hold call-1 2 flush-0 1
 hold flush-0 1 commit-1 2
-= 0
-~ @acks
-< @rest
+do acknowledged
 # Calls are acknowledged while workers run: the second call of worker 1 is held until an acknowledgement was reached.
 new
 > run 2 2
 | @four_puts
 hold call-1 2 ack 1
-= 0
-~ @acks
-< @rest
+do acknowledged
 
 == a removed entry
 # Rows 2 and 66 are in one shard, whose entry of row 2 is removed before row 66 is locked: the second call waits for the first one by

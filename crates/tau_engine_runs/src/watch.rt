@@ -6,11 +6,10 @@ use std::sync::atomic::{AtomicU64, Ordering};
 use std::thread;
 use tau_disk::{Gate, Place};
 
-// The places that are told apart.
-const PLACES: &str =
-    "call-0 call-1 call-more commit-0 commit-1 commit-more flush-0 flush-1 flush-more replay-0 replay-1 replay-more ack";
+// How many places are told apart: of each kind that of number 0, that of number 1 and all others, and the acknowledgements.
+const PLACES: u8 = 13;
 
-// Whether a name is that of the first one, the second one, or another one.
+// Whether a number is the first one, the second one, or another one.
 fn kind_of(number: u8) -> usize {
     match number {
         0 => 0,
@@ -19,7 +18,18 @@ fn kind_of(number: u8) -> usize {
     }
 }
 
-// Where a place stands among the names.
+// The first place of the kind with this name.
+fn first_of(name: &str) -> Option<usize> {
+    match name {
+        "call" => Some(0),
+        "commit" => Some(3),
+        "flush" => Some(6),
+        "replay" => Some(9),
+        "ack" => Some(12),
+        _ => None,
+    }
+}
+
 fn index_of(place: Place) -> usize {
     match place {
         Place::Call { worker } => kind_of(worker),
@@ -30,16 +40,11 @@ fn index_of(place: Place) -> usize {
     }
 }
 
-// Where the name stands.
+// The place that is spelled, as `call-0`, or `ack`.
 fn index_of_name(name: &str) -> Option<usize> {
-    let mut at = 0usize;
-    for one in PLACES.split(' ') {
-        if one == name {
-            return Some(at);
-        }
-        at = at.wrapping_add(1);
-    }
-    None
+    let (kind, number) = name.split_once('-').unwrap_or((name, "0"));
+    let number = number.parse::<u8>().ok()?;
+    Some(first_of(kind)?.wrapping_add(kind_of(number)))
 }
 
 // Who reaches a place for so many times waits until another place was reached so often.
@@ -74,7 +79,7 @@ pub(crate) struct Watch {
 impl Watch {
     pub(crate) fn new<R: Abort>(rt: &R, alloc: Global) -> Watch {
         let mut reached = Vec::new(alloc);
-        for _ in PLACES.split(' ') {
+        for _ in 0..PLACES {
             reached.push(AtomicU64::new(0)).expect(rt, "memory");
         }
         Watch {
@@ -84,15 +89,7 @@ impl Watch {
         }
     }
 
-    /// Begins anew: nobody waits.
-    pub(crate) fn begin(&mut self) {
-        self.holds.clear();
-        for place in &self.reached {
-            place.store(0, Ordering::SeqCst);
-        }
-    }
-
-    /// Who waits: a place and the how manieth time, and another place and how often it is to be reached.
+    /// Who waits: a place, the number of the time at which it is reached, another place, and how often that is to be reached.
     pub(crate) fn hold<R: Abort>(&mut self, rt: &R, spelled: &str) -> bool {
         let Some(hold) = hold_of(spelled) else {
             return false;
@@ -132,25 +129,22 @@ impl Watch {
         self.late.load(Ordering::SeqCst) == 0
     }
 
-    // How often the places whose names begin so were reached.
-    fn sum(&self, start: &str) -> u64 {
-        let mut sum = 0u64;
-        let mut at = 0usize;
-        for name in PLACES.split(' ') {
-            if name.starts_with(start) {
-                sum = sum.wrapping_add(self.count(at));
-            }
-            at = at.wrapping_add(1);
+    // How often the place was reached, or all places of a kind, where no number is named.
+    fn sum(&self, name: &str) -> Option<u64> {
+        if name.contains('-') {
+            return Some(self.count(index_of_name(name)?));
         }
-        sum
+        let first = first_of(name)?;
+        let two = self
+            .count(first)
+            .wrapping_add(self.count(first.wrapping_add(1)));
+        Some(two.wrapping_add(self.count(first.wrapping_add(2))))
     }
 
-    /// Whether the places whose names begin so were reached so often at least.
-    pub(crate) fn has_reached(&self, spelled: &str) -> bool {
-        match number_of(spelled) {
-            Some((wanted, start)) => wanted != 0 && self.sum(start) >= wanted,
-            None => false,
-        }
+    /// Whether a place, or those of a kind, were reached so often at least.
+    pub(crate) fn has_reached(&self, spelled: &str) -> Option<bool> {
+        let (wanted, name) = number_of(spelled)?;
+        Some(wanted != 0 && self.sum(name)? >= wanted)
     }
 }
 
