@@ -110,7 +110,7 @@ part calls | proc merge 3 ; get r0 savings $1 ; when r0 = none ; add r0 0 0 ; do
 part calls | proc check 3 ; get r0 savings $1 ; when r0 = none ; add r0 0 0 ; done ; get r1 checking $1 ; when r1 = none ; add r1 0 0 ; done ; add r0 r0 r1 ; need r0 >= $3 ; sub r1 r1 $3 ; get r2 branch $2 ; when r2 = none ; add r2 0 0 ; done ; add r2 r2 $3 ; put checking $1 r1 ; put branch $2 r2 ; reply r1 ; end
 part calls | proc pay 3 ; get r0 checking $1 ; when r0 = none ; add r0 0 0 ; done ; need r0 >= $3 ; sub r0 r0 $3 ; get r1 checking $2 ; when r1 = none ; add r1 0 0 ; done ; add r1 r1 $3 ; put checking $1 r0 ; put checking $2 r1 ; reply r0 ; end
 part calls each 1 9 add checking {k} 100 ; add savings {k} 100 ; add branch {k} 0
-part calls each 1 301 call {balance|deposit|save|merge|check|pay} {k*5:8+1} {k:7+k+k+k+k+k+1:8+1} {k:20+1}
+part calls each 1 301 call {k:6|balance|deposit|save|merge|check|pay} {k*5:8+1} {k:7+k+k+k+k+k+1:8+1} {k:20+1}
 new
 > %1
 do calls

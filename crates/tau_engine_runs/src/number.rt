@@ -31,20 +31,20 @@ pub(crate) fn value_of(spelled: &str, k: u64) -> Option<u64> {
     apply(sign, value, number)
 }
 
-// The one of these choices, with `|` between them, that is that of this number, which goes round them.
-fn choice_of(spelled: &str, k: u64) -> &str {
-    let count = spelled.split('|').count() as u64;
-    let place = k.checked_rem(count).unwrap_or(0);
-    spelled.split('|').nth(place as usize).unwrap_or("")
+// The choice with this number, from 0, of those that have `|` between them.
+fn choice_of(choices: &str, number: u64) -> Option<&str> {
+    let mut left = number;
+    for choice in choices.split('|') {
+        if left == 0 {
+            return Some(choice);
+        }
+        left = left.wrapping_sub(1);
+    }
+    None
 }
 
-// Puts what stands between `{` and `}`.
-fn put_one<R: Abort>(rt: &R, alloc: Global, spelled: &str, k: u64, to: &mut Vec<u8>) -> bool {
-    if spelled.contains('|') {
-        to.extend_from_slice(choice_of(spelled, k).as_bytes())
-            .expect(rt, "memory");
-        return true;
-    }
+// Puts what is worked out for the number.
+fn put_value<R: Abort>(rt: &R, alloc: Global, spelled: &str, k: u64, to: &mut Vec<u8>) -> bool {
     let Some(value) = value_of(spelled, k) else {
         return false;
     };
@@ -53,12 +53,27 @@ fn put_one<R: Abort>(rt: &R, alloc: Global, spelled: &str, k: u64, to: &mut Vec<
     true
 }
 
+// Puts the choice whose number is worked out.
+fn put_choice<R: Abort>(rt: &R, spelled: &str, choices: &str, k: u64, to: &mut Vec<u8>) -> bool {
+    let Some(value) = value_of(spelled, k) else {
+        return false;
+    };
+    let Some(choice) = choice_of(choices, value) else {
+        return false;
+    };
+    to.extend_from_slice(choice.as_bytes()).expect(rt, "memory");
+    true
+}
+
 // Puts what stands between `{` and `}`, and what comes after it.
 fn put_part<R: Abort>(rt: &R, alloc: Global, part: &str, k: u64, to: &mut Vec<u8>) -> bool {
     let Some((spelled, rest)) = part.split_once('}') else {
         return false;
     };
-    let is_put = put_one(rt, alloc, spelled, k, to);
+    let is_put = match spelled.split_once('|') {
+        Some((number, choices)) => put_choice(rt, number, choices, k, to),
+        None => put_value(rt, alloc, spelled, k, to),
+    };
     to.extend_from_slice(rest.as_bytes()).expect(rt, "memory");
     is_put
 }

@@ -3,7 +3,7 @@
 //!
 //! - `row FIELD / FIELD ..` is no line of a scene, which is played with each of its rows, or once if it has none: `%1`, `%2` .. stand for
 //!   the fields. `rows FROM PAST FIELDS` is a row for each number from one to before the other: `{k}` stands for the number, `{k*5:8+1}` for
-//!   what is worked out from left to right (`:` is what a division leaves), and `{a|b|c}` for one of these, which it goes round.
+//!   what is worked out from left to right (`:` is what a division leaves), and `{k:3|a|b|c}` for the one of these that has that number, from 0.
 //! - `#` is a comment. `$name DIGITS` names bytes in hexadecimal digits, which other lines spell by `$name`, or `$name:FROM:PAST` for a range
 //!   of them; `@name LINES` names lines. LINES have ` ; ` between them. `do NAME` does what the lines `part NAME LINE` say. All scenes of a
 //!   text know its names.

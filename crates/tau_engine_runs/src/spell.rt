@@ -263,9 +263,12 @@ fn put_field<R: Abort>(rt: &R, row: &str, part: &str, to: &mut String) {
 
 // The field with this number, from 1.
 fn field_of<'t>(row: &'t str, digit: &str) -> Option<&'t str> {
-    if row.is_empty() {
-        return None;
+    let mut left = digit.parse::<u64>().ok()?;
+    for field in row.split(" / ") {
+        left = left.wrapping_sub(1);
+        if left == 0 {
+            return if row.is_empty() { None } else { Some(field) };
+        }
     }
-    let number = digit.parse::<usize>().ok()?;
-    row.split(" / ").nth(number.checked_sub(1)?)
+    None
 }
