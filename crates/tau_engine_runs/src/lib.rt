@@ -8,6 +8,8 @@ mod audits;
 #[cfg(test)]
 mod benches;
 #[cfg(test)]
+mod disks;
+#[cfg(test)]
 mod drills;
 #[cfg(test)]
 mod faults;
@@ -39,5 +41,7 @@ mod slots;
 mod spell;
 #[cfg(test)]
 mod threads;
+#[cfg(test)]
+mod told;
 #[cfg(test)]
 mod watch;

@@ -23,11 +23,11 @@
 //!   often a place, or all of a kind, were reached at least.
 //! - `had J N` and `held J IMAGE` look at a disk: how many calls it has had, and what it holds; `last J N BYTES` at what begins N bytes before
 //!   its end. `idle` says that no disk was called.
-use crate::lines::{are_told, begins, first_of, has_one, is_count, is_sum, spelled_lines};
+use crate::disks::{look_at_disks, prepare};
+use crate::lines::spelled_lines;
 use crate::number::put_template;
-use crate::spell::{
-    filled, image_of, number_of, numbers_of, put_bytes, put_piece, word_of, words_of,
-};
+use crate::spell::{filled, number_of, numbers_of, put_bytes, put_piece, word_of, words_of};
+use crate::told::Told;
 use crate::watch::Watch;
 use std::alloc::Global;
 use std::process::Abort;
@@ -35,7 +35,7 @@ use std::str;
 use std::sync::Wait;
 use std::test::*;
 use std::thread::Threads;
-use tau_disk::{MemDisk, MemSink, MemSource, Tear};
+use tau_disk::{MemDisk, MemSink, MemSource};
 use tau_engine::{DISKS, Status, taurus};
 
 /// A scene of a text, and the row with which it is played.
@@ -58,11 +58,7 @@ struct Stage<'t> {
     source: Vec<u8>,
     source_fails: &'t str,
     sink_fails: &'t str,
-    told: Vec<u8>,
-    // How much of it was looked at.
-    seen: usize,
-    // What was told before, and kept.
-    kept: Vec<u8>,
+    told: Told,
     // How the last call ended, and the one before it.
     status: Option<Status>,
     before: Option<Status>,
@@ -70,23 +66,6 @@ struct Stage<'t> {
     watch: Watch,
     // The line of a part that is played.
     part: &'t str,
-}
-
-// The disk in this place holds this.
-fn put_disk(disks: &mut Vec<MemDisk>, place: u64, disk: MemDisk) -> bool {
-    match disks.get_mut(place as usize) {
-        Some(it) => {
-            *it = disk;
-            true
-        }
-        None => false,
-    }
-}
-
-// The image of the disk in this place.
-fn image_at<R: Abort>(rt: &R, disks: &[MemDisk], place: u64) -> Option<Vec<u8>> {
-    let disk = disks.get(place as usize)?;
-    Some(disk.image(Tear::Old).expect(rt, "memory"))
 }
 
 impl<'t> Stage<'t> {
@@ -99,108 +78,13 @@ impl<'t> Stage<'t> {
             source: Vec::new(alloc),
             source_fails: "",
             sink_fails: "",
-            told: Vec::new(alloc),
-            seen: 0,
-            kept: Vec::new(alloc),
+            told: Told::new(alloc),
             status: None,
             before: None,
             calls: 0,
             watch: Watch::new(rt, alloc),
             part: "",
         }
-    }
-
-    // New disks.
-    fn begin<R: Abort>(&mut self, rt: &R, alloc: Global) -> bool {
-        self.disks.clear();
-        for _ in 0..DISKS {
-            let disk = MemDisk::new(alloc, &[]).expect(rt, "memory");
-            self.disks.push(disk).expect(rt, "memory");
-        }
-        true
-    }
-
-    // A disk that holds an image.
-    fn hold<R: Abort>(&mut self, rt: &R, alloc: Global, rest: &str) -> bool {
-        let Some((place, spelled)) = number_of(rest) else {
-            return false;
-        };
-        let Some(image) = image_of(rt, alloc, self.text, spelled) else {
-            return false;
-        };
-        let disk = MemDisk::of_image(alloc, &image).expect(rt, "memory");
-        put_disk(&mut self.disks, place, disk)
-    }
-
-    // A new disk of which these calls fail.
-    fn fail<R: Abort>(&mut self, rt: &R, alloc: Global, rest: &str) -> bool {
-        let Some((place, spelled)) = number_of(rest) else {
-            return false;
-        };
-        let Some(calls) = numbers_of(rt, alloc, spelled) else {
-            return false;
-        };
-        let disk = MemDisk::new(alloc, &calls).expect(rt, "memory");
-        put_disk(&mut self.disks, place, disk)
-    }
-
-    // A new disk on which all stops at this call.
-    fn stop<R: Abort>(&mut self, rt: &R, alloc: Global, rest: &str) -> bool {
-        let Some((place, spelled)) = number_of(rest) else {
-            return false;
-        };
-        let Ok(call) = spelled.parse::<u32>() else {
-            return false;
-        };
-        let disk = MemDisk::stopping(alloc, call, true).expect(rt, "memory");
-        put_disk(&mut self.disks, place, disk)
-    }
-
-    // The disk in this place holds these bytes in place of those of its image.
-    fn change_at<R: Abort>(
-        &mut self,
-        rt: &R,
-        alloc: Global,
-        place: u64,
-        from: u64,
-        rest: &str,
-    ) -> Option<bool> {
-        let (past, spelled) = number_of(rest)?;
-        let image = image_at(rt, &self.disks, place)?;
-        let before = image.get(..from as usize)?;
-        let after = image.get(past as usize..)?;
-        let mut other = Vec::from_slice(alloc, before).expect(rt, "memory");
-        if !put_bytes(rt, alloc, self.text, spelled, 0, &mut other) {
-            return None;
-        }
-        other.extend_from_slice(after).expect(rt, "memory");
-        let disk = MemDisk::of_image(alloc, &other).expect(rt, "memory");
-        Some(put_disk(&mut self.disks, place, disk))
-    }
-
-    fn change<R: Abort>(&mut self, rt: &R, alloc: Global, rest: &str) -> bool {
-        let Some((place, rest)) = number_of(rest) else {
-            return false;
-        };
-        let Some((from, rest)) = number_of(rest) else {
-            return false;
-        };
-        self.change_at(rt, alloc, place, from, rest) == Some(true)
-    }
-
-    // What a stop leaves of all disks.
-    fn tear<R: Abort>(&mut self, rt: &R, alloc: Global, rest: &str) -> bool {
-        let tear = match rest {
-            "old" => Tear::Old,
-            "new" => Tear::New,
-            "torn" => Tear::Torn,
-            _ => return false,
-        };
-        for disk in self.disks.iter_mut() {
-            let image = disk.image(tear).expect(rt, "memory");
-            *disk = MemDisk::of_image(alloc, &image).expect(rt, "memory");
-        }
-        true
     }
 
     // Begins a call of these words.
@@ -284,12 +168,10 @@ impl<'t> Stage<'t> {
 
     // The call has told this, and ended with this code, where that is so.
     fn end<R: Abort>(&mut self, rt: &R, told: &[u8], found: u8, code: &str) -> bool {
-        self.told.clear();
-        self.told.extend_from_slice(told).expect(rt, "memory");
+        let is_any = code == "any";
+        self.told.set(rt, told, is_any);
         self.calls = self.calls.wrapping_add(1);
         self.is_made = true;
-        let is_any = code == "any";
-        self.seen = if is_any { self.told.len() } else { 0 };
         is_any || code.parse::<u8>() == Ok(found)
     }
 
@@ -314,136 +196,6 @@ impl<'t> Stage<'t> {
         self.end(rt, sink.bytes(), found, code) && self.watch.is_in_time()
     }
 
-    // The next lines that were told are these.
-    fn next_is<R: Abort>(&mut self, rt: &R, alloc: Global, lines: &str) -> bool {
-        let Some(lines) = spelled_lines(rt, alloc, self.text, lines) else {
-            return false;
-        };
-        let rest = self.told.get(self.seen..).unwrap_or(&[]);
-        let is_next = rest.starts_with(lines.as_bytes());
-        self.seen = self.seen.wrapping_add(lines.len());
-        is_next
-    }
-
-    // These are some of the next lines.
-    fn has_next<R: Abort>(&mut self, rt: &R, alloc: Global, lines: &str) -> bool {
-        let Some(lines) = spelled_lines(rt, alloc, self.text, lines) else {
-            return false;
-        };
-        self.seen = self.seen.wrapping_add(lines.len());
-        are_told(rt, alloc, &self.told, &lines)
-    }
-
-    // Keeps what was told.
-    fn keep<R: Abort>(&mut self, rt: &R) -> bool {
-        self.kept.clear();
-        self.kept.extend_from_slice(&self.told).expect(rt, "memory");
-        self.seen = self.told.len();
-        true
-    }
-
-    // After a first line that begins with these words, what was told is what was kept.
-    fn is_kept(&mut self, words: &str) -> bool {
-        self.seen = self.told.len();
-        let line = first_of(&self.told);
-        let rest = self.told.get(line.len().wrapping_add(1)..);
-        begins(line, words) && rest == Some(self.kept.as_slice())
-    }
-
-    // Of all that was told, lines are these.
-    fn has<R: Abort>(&mut self, rt: &R, alloc: Global, lines: &str) -> bool {
-        self.seen = 0;
-        let is_so = self.has_next(rt, alloc, lines);
-        self.seen = self.told.len();
-        is_so
-    }
-
-    // If a line begins with the words before ` ; `, the line after it was told.
-    fn has_where<R: Abort>(&mut self, rt: &R, alloc: Global, rest: &str) -> bool {
-        let Some((words, line)) = rest.split_once(" ; ") else {
-            return false;
-        };
-        self.seen = self.told.len();
-        !has_one(&self.told, words) || self.has(rt, alloc, line)
-    }
-
-    // How many lines begin with words, and their sum.
-    fn has_tally(&mut self, word: &str, rest: &str) -> bool {
-        self.seen = self.told.len();
-        match word {
-            "count" => is_count(&self.told, rest),
-            "sum" => is_sum(&self.told, rest),
-            _ => false,
-        }
-    }
-
-    // The disk in this place has had so many calls.
-    fn had(&self, rest: &str) -> bool {
-        let Some((place, rest)) = number_of(rest) else {
-            return false;
-        };
-        match self.disks.get(place as usize) {
-            Some(disk) => rest.parse::<u64>() == Ok(disk.calls()),
-            None => false,
-        }
-    }
-
-    // The disk in this place holds this image.
-    fn held<R: Abort>(&self, rt: &R, alloc: Global, rest: &str) -> bool {
-        let Some((place, spelled)) = number_of(rest) else {
-            return false;
-        };
-        let Some(wanted) = image_of(rt, alloc, self.text, spelled) else {
-            return false;
-        };
-        let Some(disk) = self.disks.get(place as usize) else {
-            return false;
-        };
-        disk.image(Tear::Old).expect(rt, "memory").as_slice() == wanted.as_slice()
-    }
-
-    // The image of the disk in this place has these bytes, which begin so many bytes before its end.
-    fn ends_with<R: Abort>(&self, rt: &R, alloc: Global, rest: &str) -> Option<bool> {
-        let (place, rest) = number_of(rest)?;
-        let (back, spelled) = number_of(rest)?;
-        let image = image_at(rt, &self.disks, place)?;
-        let mut wanted = Vec::new(alloc);
-        if !put_bytes(rt, alloc, self.text, spelled, 0, &mut wanted) {
-            return None;
-        }
-        let from = image.len().checked_sub(back as usize)?;
-        Some(image.get(from..)?.starts_with(wanted.as_slice()))
-    }
-
-    // No disk was called.
-    fn is_idle(&self) -> bool {
-        for disk in &self.disks {
-            if disk.calls() != 0 {
-                return false;
-            }
-        }
-        true
-    }
-
-    // What disks there are.
-    fn prepare<R: Abort>(
-        &mut self,
-        rt: &R,
-        alloc: Global,
-        word: &str,
-        rest: &'t str,
-    ) -> Option<bool> {
-        Some(match word {
-            "new" => self.begin(rt, alloc),
-            "disk" => self.hold(rt, alloc, rest),
-            "failing" => self.fail(rt, alloc, rest),
-            "stopping" => self.stop(rt, alloc, rest),
-            "change" => self.change(rt, alloc, rest),
-            "tear" => self.tear(rt, alloc, rest),
-            _ => return None,
-        })
-    }
-
     // What a call is made of.
     fn compose<R: Abort>(
         &mut self,
@@ -461,7 +213,7 @@ impl<'t> Stage<'t> {
             "hold" => self.watch.hold(rt, rest),
             "told" => {
                 self.source
-                    .extend_from_slice(&self.told)
+                    .extend_from_slice(self.told.bytes())
                     .expect(rt, "memory");
                 true
             }
@@ -480,32 +232,15 @@ impl<'t> Stage<'t> {
     // What is said of a disk or of how the call ended.
     fn look_beside<R: Abort>(&self, rt: &R, alloc: Global, word: &str, rest: &str) -> Option<bool> {
         match word {
-            "had" => Some(self.had(rest)),
-            "held" => Some(self.held(rt, alloc, rest)),
-            "last" => self.ends_with(rt, alloc, rest),
-            "idle" => Some(self.is_idle()),
             "same" => Some(self.status == self.before),
             "reached" => self.watch.has_reached(rest),
-            _ => None,
-        }
-    }
-
-    // What is said of what was told.
-    fn look<R: Abort>(&mut self, rt: &R, alloc: Global, word: &str, rest: &str) -> bool {
-        match word {
-            "<" => self.next_is(rt, alloc, rest),
-            "~" => self.has_next(rt, alloc, rest),
-            "has" => self.has(rt, alloc, rest),
-            "where" => self.has_where(rt, alloc, rest),
-            "keep" => self.keep(rt),
-            "kept" => self.is_kept(rest),
-            _ => self.has_tally(word, rest),
+            _ => look_at_disks(rt, alloc, self.text, &self.disks, word, rest),
         }
     }
 
     // Whether each call that was begun was made, and all that it told was looked at.
     fn is_settled(&self) -> bool {
-        self.is_made && self.seen == self.told.len()
+        self.is_made && self.told.is_seen()
     }
 
     // Does what a line of no part says.
@@ -520,7 +255,7 @@ impl<'t> Stage<'t> {
             _ if rest.contains('%') => false,
             ">" => self.is_settled() && self.call(rt, alloc, rest),
             "=" => !self.is_made && self.make(rt, alloc, rest),
-            _ => match self.prepare(rt, alloc, word, rest) {
+            _ => match prepare(rt, alloc, self.text, &mut self.disks, word, rest) {
                 Some(done) => done && self.is_settled(),
                 None => self.compose_or_look(rt, alloc, word, rest),
             },
@@ -574,7 +309,7 @@ impl<'t> Stage<'t> {
             Some(done) => done,
             None => match self.look_beside(rt, alloc, word, rest) {
                 Some(is_so) => is_so,
-                None => self.look(rt, alloc, word, rest),
+                None => self.told.look(rt, alloc, self.text, word, rest),
             },
         }
     }
@@ -598,7 +333,7 @@ fn is_silent(word: &str) -> bool {
 
 // What is wrong: a line of a scene, the row with which it is played, the line of the part that it plays, and what was told.
 fn fault(scene: Scene<'_>, line: &str, stage: &Stage<'_>) -> Fail {
-    let told = str::from_utf8(&stage.told).unwrap_or("no text");
+    let told = str::from_utf8(stage.told.bytes()).unwrap_or("no text");
     let (title, row, part) = (scene.title, scene.row, stage.part);
     Fail::new(format_args!("{title}, row {row}\n{line}\n{part}\n{told}"))
 }
