@@ -168,7 +168,9 @@ fn put_header<'t, R: Abort>(rt: &R, spelled: &'t str, to: &mut Vec<u8>) -> Optio
     let (stream, bodies) = number_of(rest)?;
     to.extend_from_slice(b"TAURUS-LOG-").expect(rt, "memory");
     to.extend_from_slice(digit.as_bytes()).expect(rt, "memory");
-    let fields = [0, streams as u8, 0, stream as u8];
+    let streams = u8::try_from(streams).ok()?;
+    let stream = u8::try_from(stream).ok()?;
+    let fields = [0, streams, 0, stream];
     to.extend_from_slice(&fields).expect(rt, "memory");
     Some(bodies)
 }
@@ -225,10 +227,13 @@ pub(crate) fn put_piece<R: Abort>(
     if !put_bytes(rt, alloc, text, rest, 0, &mut bytes) {
         return false;
     }
+    let Ok(stream) = u8::try_from(stream) else {
+        return false;
+    };
     let Ok(long) = u32::try_from(bytes.len()) else {
         return false;
     };
-    to.push(stream as u8).expect(rt, "memory");
+    to.push(stream).expect(rt, "memory");
     to.extend_from_slice(&long.to_be_bytes())
         .expect(rt, "memory");
     to.extend_from_slice(&bytes).expect(rt, "memory");
