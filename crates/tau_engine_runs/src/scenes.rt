@@ -2,7 +2,7 @@
 //! `== TITLE`, and each of its parts is a scene: its lines begin with a word and are done in turn.
 //!
 //! - `row FIELD / FIELD ..` is no line of a scene, which is played with each of its rows, or once if it has none: `%1`, `%2` .. stand for
-//!   the fields. `rows FROM PAST FIELDS` is a row for each number from one to before the other: `{k}` stands for the number, `{k*5:8+1}` for
+//!   the fields in its lines (not in parts). `rows FROM PAST FIELDS` is a row for each number from one to before the other: `{k}` stands for the number, `{k*5:8+1}` for
 //!   what is worked out from left to right (`:` is what a division leaves), and `{k:3|a|b|c}` for the one of these that has that number, from 0.
 //! - `#` is a comment. `$name DIGITS` names bytes in hexadecimal digits, which other lines spell by `$name`, or `$name:FROM:PAST` for a range
 //!   of them; `@name LINES` names lines. LINES have ` ; ` between them. `do NAME` does what the lines `part NAME LINE` say. All scenes of a
@@ -121,8 +121,14 @@ impl<'t> Stage<'t> {
         past: u64,
         template: &str,
     ) -> bool {
+        let is_plain = !template.contains('{');
         for k in from..past {
-            if !put_template(rt, alloc, template, k, &mut self.source) {
+            let is_put = if is_plain {
+                self.add(rt, template)
+            } else {
+                put_template(rt, alloc, template, k, &mut self.source)
+            };
+            if !is_put {
                 return false;
             }
         }
@@ -364,10 +370,9 @@ fn play_row<R: Threads + Wait + Sync + Abort>(
     scene: Scene<'_>,
     row: &str,
 ) -> Result<(), Fail> {
-    let text = filled(rt, alloc, scene.text, row);
     let lines = filled(rt, alloc, scene.lines, row);
     let scene = Scene {
-        text: &text,
+        text: scene.text,
         title: scene.title,
         lines: &lines,
         row,
