@@ -2,12 +2,18 @@
 #![tactic(auto)]
 
 #[cfg(test)]
-mod removals;
+mod play;
 #[cfg(test)]
-mod rounds;
+mod rows;
 #[cfg(test)]
-mod runs;
+mod scenes;
 #[cfg(test)]
-mod support;
+mod seats;
+#[cfg(test)]
+mod steps;
+#[cfg(test)]
+mod threads;
 #[cfg(test)]
 mod turns;
+#[cfg(test)]
+mod work;

@@ -1,9 +1,0 @@
--- Each seat that is split off leaves one fewer.
-use Rattle.std.proofs.Common.{◌*◌, ◌-◌}
-use Rattle.tau_desk_runs.proofs.rounds.+fn-workers-join+arg3+workers.Given as goal
-
-abbrev pub decreases-workers : goal.decreases-workers
-decreases-workers g l = 2 * l.others
-
-abbrev pub decreases-join+arg3 : goal.decreases-join+arg3
-decreases-join+arg3 g l = 2 * l.others - 1

@@ -1,5 +1,0 @@
-use Rattle.tau_desk_runs.specs.Same.{IsSameClerk}
-use Rattle.tau_desk_runs.proofs.support.acknowledge.Given as goal
-
-abbrev pub invariant-loop-worker : goal.invariant-loop-worker
-invariant-loop-worker g l = IsSameClerk l.fn.seat l.seat

@@ -1,5 +1,0 @@
-use Rattle.tau_desk_runs.specs.Same.{IsSameManager}
-use Rattle.tau_desk_runs.proofs.support.sweep.Given as goal
-
-abbrev pub invariant-loop-worker : goal.invariant-loop-worker
-invariant-loop-worker g l = IsSameManager l.fn.seat l.seat
