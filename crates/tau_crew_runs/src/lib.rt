@@ -3,6 +3,10 @@
 #![tactic(auto)]
 
 #[cfg(test)]
-mod styles;
+mod play;
 #[cfg(test)]
-mod tests;
+mod scenes;
+#[cfg(test)]
+mod streams;
+#[cfg(test)]
+mod told;

@@ -3,7 +3,7 @@ use Rattle.tau_stream.specs.Stream.{catalogue_record}
 use Rattle.tau_open.specs.Opening.{AreOpened}
 use Rattle.tau_run.specs.Start.{catalogue_of}
 use Rattle.tau_crew_runs.proofs.Openings.{are_new}
-use Rattle.tau_crew_runs.proofs.tests.created.Goals as goal
+use Rattle.tau_crew_runs.proofs.streams.created.Goals as goal
 
 pub returns-in-Ok-open_streams-clause-fresh : goal.returns-in-Ok-open_streams-clause-fresh
 returns-in-Ok-open_streams-clause-fresh c =

@@ -4,7 +4,7 @@ use Rattle.std.specs.Prelude.{Some, slice_get}
 use Rattle.std.proofs.lemmas.Option.{slice_get_read}
 use Rattle.tau_run.specs.Start.{catalogue_of}
 use Rattle.tau_crew_runs.proofs.Openings.{begun}
-use Rattle.tau_crew_runs.proofs.tests.run_from.Goals as goal
+use Rattle.tau_crew_runs.proofs.streams.run_from.Goals as goal
 
 pub run_threads_from-requires-clause-streams : goal.run_threads_from-requires-clause-streams
 run_threads_from-requires-clause-streams g c κs = omega (arith, ap (length {A = ℕ}) c.opening-opening.ensures.ends)
