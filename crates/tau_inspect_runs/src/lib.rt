@@ -2,16 +2,14 @@
 #![tactic(auto)]
 
 #[cfg(test)]
+mod audits;
+#[cfg(test)]
 mod bad;
-#[cfg(test)]
-mod checks;
-#[cfg(test)]
-mod executions;
 #[cfg(test)]
 mod inspections;
 #[cfg(test)]
+mod logs;
+#[cfg(test)]
 mod records;
 #[cfg(test)]
-mod rows;
-#[cfg(test)]
-mod support;
+mod reports;
