@@ -1,5 +1,4 @@
-use std::process::Abort;
-use std::test::Fail;
+//! Generated workloads.
 use tau_base::{Name, Value};
 use tau_gen::generate;
 use tau_text::Workload;
@@ -18,32 +17,28 @@ fn numbers_of(load: &Workload, place: usize) -> Option<(u16, i64, i64, i64)> {
     }
 }
 
-// Checks that there is one table, and its name.
-fn is_only_table(rt: &impl Abort, tables: &[Name], name: &str) {
-    assert_eq!(rt; tables.len(), 1);
-    for table in tables {
-        assert_eq!(rt; table.as_str(), name);
+// Whether there is one table, with this name.
+fn is_only_table(tables: &[Name], name: &str) -> bool {
+    match tables {
+        [table] => table.as_str() == name,
+        _ => false,
     }
 }
 
-#[test]
-fn calls_follow_the_formula(rt: HostRuntime) -> Result<(), Fail> {
-    let load = generate(rt.alloc(), 7, 10)?;
-    is_only_table(&rt, load.declarations.tables.as_slice(), "acct");
-    assert!(rt; load.turns.is_none());
-    assert_eq!(rt; load.calls.len(), 10);
-    let rows = [(0, 44, 2), (1, 81, 3), (8, 340, 10), (9, 377, 1)];
-    for (at, row, amount) in rows {
-        let wanted = Some((1, 0, row, amount));
-        assert!(rt; numbers_of(&load, at) == wanted, "call {at}");
-    }
-    Ok(())
-}
+// The place of a call, the row that it adds to, and the amount.
+static CALLS: [(usize, i64, i64); 4] = [(0, 44, 2), (1, 81, 3), (8, 340, 10), (9, 377, 1)];
 
 #[test]
-fn no_calls_are_generated_where_none_are_asked_for(rt: HostRuntime) -> Result<(), Fail> {
-    assert_eq!(rt; generate(rt.alloc(), 999, 0)?.calls.len(), 0);
-    Ok(())
+fn calls_follow_the_formula(rt: HostRuntime) {
+    let load = generate(rt.alloc(), 7, 10).expect(&rt, "memory");
+    assert!(rt; is_only_table(load.declarations.tables.as_slice(), "acct"));
+    assert!(rt; load.turns.is_none() && load.calls.len() == 10);
+    for (at, row, amount) in &CALLS {
+        assert!(rt;
+            numbers_of(&load, *at) == Some((1, 0, *row, *amount)),
+            "call {at}"
+        );
+    }
 }
 
 // Adds the amount to the sum of all, and to that of its row.
@@ -70,15 +65,16 @@ fn sums_of(load: &Workload) -> [i64; 4] {
 
 /// Over 1,000 rows from 7 on, 20,000 calls add 110,000: 200 to row 0, 20 to row 7 and 40 to row 44.
 #[test]
-fn amounts_of_each_row(rt: HostRuntime) -> Result<(), Fail> {
-    let load = generate(rt.alloc(), 7, 20_000)?;
-    assert_eq!(rt; load.calls.len(), 20_000);
-    assert_eq!(rt; sums_of(&load), [110_000, 200, 20, 40]);
-    Ok(())
+fn amounts_of_each_row(rt: HostRuntime) {
+    let load = generate(rt.alloc(), 7, 20_000).expect(&rt, "memory");
+    assert!(rt; load.calls.len() == 20_000 && sums_of(&load) == [110_000, 200, 20, 40]);
 }
 
+// No call, and the most that can be asked for.
 #[test]
-fn most_calls_are_generated(rt: HostRuntime) -> Result<(), Fail> {
-    assert_eq!(rt; generate(rt.alloc(), 999, 200_000)?.calls.len(), 200_000);
-    Ok(())
+fn as_many_calls_as_are_asked_for(rt: HostRuntime) {
+    for calls in [0u32, 200_000] {
+        let load = generate(rt.alloc(), 999, calls).expect(&rt, "memory");
+        assert!(rt; u32::try_from(load.calls.len()).ok() == Some(calls));
+    }
 }

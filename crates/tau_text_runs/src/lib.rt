@@ -4,11 +4,9 @@
 #[cfg(test)]
 mod generated;
 #[cfg(test)]
-mod print;
+mod play;
 #[cfg(test)]
 mod rows;
-#[cfg(test)]
-mod spellings;
 #[cfg(test)]
 mod text;
 #[cfg(test)]

@@ -1,298 +1,116 @@
-use crate::rows::{CALLS, DECLARATIONS, LINES, STEPS};
-use std::alloc::{AllocError, Global};
-use std::process::Abort;
-use std::test::Fail;
-use tau_text::{TextRefusal, parse_declarations, parse_workload};
+//! What is read of texts, and what is printed.
+use crate::play::{is_printed, outcome, play};
+use crate::rows::{
+    ALONE, CALLS, DECLARATIONS, FORMS, LARGE, LINES, LONG, MANY, MANY_AND_FEW, NUMBERED, SPELLINGS,
+    STEPS, STEPS_AND_TEXTS,
+};
+use std::alloc::Global;
+use tau_proc::Proc;
+use tau_text::{Workload, parse_workload, print_declarations};
 
-// the line and the number of the cause; 0 and 0 of a good text
-pub fn outcome(alloc: Global, text: &[u8]) -> (u32, u8) {
-    match parse_workload(alloc, text) {
-        Ok(_) => (0, 0),
-        Err(TextRefusal::NoMemory) => (0, 10),
-        Err(TextRefusal::Bad(fault)) => (fault.line, fault.cause.number()),
+#[test]
+fn texts(rt: HostRuntime) {
+    for rows in [LINES, DECLARATIONS, FORMS, ALONE] {
+        play(&rt, rt.alloc(), ("", ""), rows);
     }
 }
 
-// Checks the line and the cause of a text.
-fn tells(rt: &impl Abort, alloc: Global, text: &str, line: u32, cause: u8) {
-    assert_eq!(rt; outcome(alloc, text.as_bytes()), (line, cause), "{text}");
+#[test]
+fn texts_up_to_their_limits(rt: HostRuntime) {
+    for rows in [STEPS_AND_TEXTS, NUMBERED, LARGE] {
+        play(&rt, rt.alloc(), ("", ""), rows);
+    }
 }
 
-fn put_joined(text: &mut Vec<u8>, front: &str, line: &str, back: &str) -> Result<(), AllocError> {
-    text.extend_from_slice(front.as_bytes())?;
-    text.extend_from_slice(line.as_bytes())?;
-    text.extend_from_slice(back.as_bytes())
+#[test]
+fn calls_and_turns_up_to_their_limits(rt: HostRuntime) {
+    play(&rt, rt.alloc(), ("", ""), MANY);
 }
 
-// Checks the cause of a line between others. Where it is not 0, this is the number of the line.
-fn tells_between(
-    rt: &impl Abort,
-    alloc: Global,
-    around: (&str, &str),
-    line: &str,
-    wanted: (u32, u8),
-) -> Result<(), AllocError> {
-    let mut text = Vec::new(alloc);
-    put_joined(&mut text, around.0, line, around.1)?;
-    let number = if wanted.1 == 0 { 0 } else { wanted.0 };
-    assert_eq!(rt;
-        outcome(alloc, text.as_slice()),
-        (number, wanted.1),
-        "{line}"
+#[test]
+fn bytes_up_to_their_limit(rt: HostRuntime) {
+    play(&rt, rt.alloc(), ("", ""), LONG);
+}
+
+#[test]
+fn steps_by_their_words(rt: HostRuntime) {
+    play(&rt, rt.alloc(), ("table a¶proc p 2¶", "¶end¶"), STEPS);
+}
+
+#[test]
+fn calls_and_turns_by_their_words(rt: HostRuntime) {
+    play(
+        &rt,
+        rt.alloc(),
+        ("table a¶proc p 2¶end¶proc q 0¶end¶", "¶"),
+        CALLS,
     );
-    Ok(())
 }
 
+static DECLARED: &str = "table ab¶table a¶proc pq 1¶end¶proc p 2¶end¶proc q 0¶end¶proc e 8¶end¶";
+
+// Lines of calls, each with much text after it, and as the last of a text.
 #[test]
-fn first_bad_lines_of_texts(rt: HostRuntime) {
-    for (line, cause, text) in LINES.iter() {
-        tells(&rt, rt.alloc(), text, *line, *cause);
-    }
-    for (line, cause, text) in DECLARATIONS.iter() {
-        tells(&rt, rt.alloc(), text, *line, *cause);
+fn spellings(rt: HostRuntime) {
+    let more = "¶# much longer than a number is¶";
+    for (back, rows) in [(more, SPELLINGS), ("", SPELLINGS), ("", MANY_AND_FEW)] {
+        play(&rt, rt.alloc(), (DECLARED, back), rows);
     }
 }
 
-#[test]
-fn steps_by_their_words(rt: HostRuntime) -> Result<(), Fail> {
-    let around = ("table a\nproc p 2\n", "\nend\n");
-    for (cause, step) in STEPS.iter() {
-        tells_between(&rt, rt.alloc(), around, step, (3, *cause))?;
-    }
-    Ok(())
-}
-
-#[test]
-fn calls_and_turns_by_their_words(rt: HostRuntime) -> Result<(), Fail> {
-    let around = ("table a\nproc p 2\nend\nproc q 0\nend\n", "\n");
-    for (cause, call) in CALLS.iter() {
-        tells_between(&rt, rt.alloc(), around, call, (6, *cause))?;
-    }
-    Ok(())
-}
-
-// Checks that this line of a text is the first one that is no text.
-fn is_no_text(rt: &impl Abort, alloc: Global, text: &[u8], line: u32) {
-    assert_eq!(rt; outcome(alloc, text), (line, 1));
-}
+// Bytes, and the first line of them that is no text.
+static NO_TEXTS: [(u32, &[u8]); 6] = [
+    (1, b"\xff"),
+    (1, b"# \xc3\n"),
+    (2, b"table a\nput a 1 \"\xed\xa0\x80\""),
+    (1, b"foo \x80\nfoo"),
+    (3, b"proc p 0\n\n\xf8\nfoo"),
+    (4, b"table a\nadd a 1 2\nadd a 3 4\n# this is \xff no text"),
+];
 
 #[test]
 fn bytes_that_are_no_text(rt: HostRuntime) {
-    is_no_text(&rt, rt.alloc(), b"\xff", 1);
-    is_no_text(&rt, rt.alloc(), b"# \xc3\n", 1);
-    is_no_text(&rt, rt.alloc(), b"table a\nput a 1 \"\xed\xa0\x80\"", 2);
-    is_no_text(&rt, rt.alloc(), b"foo \x80\nfoo", 1);
-    is_no_text(&rt, rt.alloc(), b"proc p 0\n\n\xf8\nfoo", 3);
-    is_no_text(
-        &rt,
-        rt.alloc(),
-        b"table a\nadd a 1 2\nadd a 3 4\n# this is \xff no text",
-        4,
-    );
-}
-
-// the front, a line so many times, and the back
-fn put_repeated(
-    text: &mut Vec<u8>,
-    front: &str,
-    line: &str,
-    times: usize,
-    back: &str,
-) -> Result<(), AllocError> {
-    text.extend_from_slice(front.as_bytes())?;
-    for _ in 0..times {
-        text.extend_from_slice(line.as_bytes())?;
-    }
-    text.extend_from_slice(back.as_bytes())
-}
-
-// fronts, lines so many times and backs, with the bad line and the number of the cause
-type Row = (&'static str, &'static str, usize, &'static str, u32, u8);
-
-fn check_row(rt: &impl Abort, alloc: Global, row: &Row) -> Result<(), AllocError> {
-    let (front, line, times, back, bad, cause) = *row;
-    let mut text = Vec::new(alloc);
-    put_repeated(&mut text, front, line, times, back)?;
-    assert_eq!(rt;
-        outcome(alloc, text.as_slice()),
-        (bad, cause),
-        "{times} times {line}"
-    );
-    Ok(())
-}
-
-fn check_rows(rt: &impl Abort, alloc: Global, rows: &[Row]) -> Result<(), Fail> {
-    for row in rows {
-        check_row(rt, alloc, row)?;
-    }
-    Ok(())
-}
-
-#[test]
-fn steps_and_texts_up_to_their_limits(rt: HostRuntime) -> Result<(), Fail> {
-    let rows = [
-        ("proc p 0\n", "reply 1\n", 64, "end\n", 0, 0),
-        ("proc p 0\n", "reply 1\n", 65, "end\n", 66, 7),
-        ("proc p 0\n", "reply 1\n", 64, "reply x\nend\n", 66, 6),
-        ("proc p 0\n", "when 1 = 1\ndone\n", 32, "end\n", 0, 0),
-        (
-            "proc p 0\n",
-            "when 1 = 1\ndone\n",
-            32,
-            "reply 1\nend\n",
-            66,
-            7,
-        ),
-        ("table a\nput a 1 \"", "é", 32, "\"", 0, 0),
-        ("table a\nput a 1 \"", "é", 32, "a\"", 2, 7),
-        ("table a\nput a 1 \"", "\u{1d11e}", 16, "\"", 0, 0),
-        ("table a\nput a 1 \"", "\u{1d11e}", 16, "a\"", 2, 7),
-        ("table a\nput a 1 \"", "x", 64, "\"", 0, 0),
-        ("table a\nput a 1 \"", "x", 65, "\"", 2, 7),
-    ];
-    check_rows(&rt, rt.alloc(), rows.as_slice())
-}
-
-#[test]
-fn calls_up_to_their_limit(rt: HostRuntime) -> Result<(), Fail> {
-    let rows = [
-        ("table a\n", "get a 1\n", 200_000, "turns", 0, 0),
-        ("table a\n", "get a 1\n", 200_001, "turns", 200_002, 7),
-        ("table a\n", "get a 1\n", 200_000, "get a x", 200_002, 5),
-    ];
-    check_rows(&rt, rt.alloc(), rows.as_slice())
-}
-
-#[test]
-fn turns_up_to_their_limit(rt: HostRuntime) -> Result<(), Fail> {
-    let rows = [
-        ("turns", " c", 1_000_000, "\n", 0, 0),
-        ("turns", " c", 1_000_001, "\n", 1, 7),
-        ("turns", " c", 1_000_000, "\nturns\nturns d", 3, 7),
-    ];
-    check_rows(&rt, rt.alloc(), rows.as_slice())
-}
-
-#[test]
-fn bytes_of_a_text_up_to_their_limit(rt: HostRuntime) -> Result<(), Fail> {
-    let rows = [
-        ("", "#234567890123456", 1_048_576, "", 0, 0),
-        ("", "#23456789012345\n", 1_048_576, "#", 1_048_577, 7),
-    ];
-    check_rows(&rt, rt.alloc(), rows.as_slice())
-}
-
-// Puts so many lines, each with its number between these words.
-fn put_numbered(
-    text: &mut String,
-    alloc: Global,
-    times: u32,
-    words: (&str, &str),
-) -> Result<(), Fail> {
-    for i in 0..times {
-        text.push_str(format!(in alloc; "{}{i}{}", words.0, words.1)?.as_str())?;
-    }
-    Ok(())
-}
-
-// Checks a text of so many numbered lines, and these after them.
-fn tells_after(
-    rt: &impl Abort,
-    alloc: Global,
-    lines: (u32, &str, &str),
-    more: &str,
-    wanted: (u32, u8),
-) -> Result<(), Fail> {
-    let mut text = String::new(alloc);
-    put_numbered(&mut text, alloc, lines.0, (lines.1, lines.2))?;
-    text.push_str(more)?;
-    assert_eq!(rt; outcome(alloc, text.as_str().as_bytes()), wanted, "{more}");
-    Ok(())
-}
-
-#[test]
-fn tables_and_procedures_up_to_their_limits(rt: HostRuntime) -> Result<(), Fail> {
-    let tables = (64, "table t", "\n");
-    tells_after(&rt, rt.alloc(), tables, "", (0, 0))?;
-    tells_after(&rt, rt.alloc(), tables, "table t64\n", (65, 7))?;
-    tells_after(&rt, rt.alloc(), tables, "table t0\n", (65, 4))?;
-    let procs = (256, "proc p", " 0\nend\n");
-    tells_after(&rt, rt.alloc(), procs, "", (0, 0))?;
-    tells_after(&rt, rt.alloc(), procs, "proc p256 0\nend\n", (513, 7))
-}
-
-// the same for a text that is to be the canonical text of declarations
-fn outcome_of_declarations(alloc: Global, text: &[u8]) -> (u32, u8) {
-    match parse_declarations(alloc, text) {
-        Ok(_) => (0, 0),
-        Err(TextRefusal::NoMemory) => (0, 10),
-        Err(TextRefusal::Bad(fault)) => (fault.line, fault.cause.number()),
+    for (line, text) in &NO_TEXTS {
+        assert!(rt; outcome(rt.alloc(), text) == (*line, 1), "line {line}");
     }
 }
 
-// Procedures p0 to p6, with 64 steps each. A step that replies a text of n bytes takes n + 9, the lines about it 14:
-// six procedures of 4,686 bytes, and one of 4,613 and its last step.
-fn large_declarations(alloc: Global, last: usize, end: &str) -> Result<Vec<u8>, Fail> {
-    let mut text = Vec::new(alloc);
-    for i in 0..7 {
-        let long = if i < 6 { 64 } else { last };
-        put_large_procedure(&mut text, alloc, i, long, end)?;
+static TRANSFERS: &str =
+    "table acct\nproc move 3\nget r0 acct $1\nneed r0 >= $3\nsub r0 r0 $3\nget r1 acct $2\nadd r1 r1 $3\nput acct $1 r0\nput acct $2 r1\nreply r0\nend\nput acct 1 100\nput acct 2 50\ncall move 1 2 30\ncall move 1 2 80\nget acct 2\nturns\n";
+
+// Whether this is the procedure `move`, of three arguments and eight steps.
+fn is_move(procs: &[Proc]) -> bool {
+    match procs {
+        [found] => found.name.as_str() == "move" && found.args == 3 && found.steps.len() == 8,
+        _ => false,
     }
-    Ok(text)
 }
 
-// One of these procedures, whose last step replies a text of so many bytes.
-fn put_large_procedure(
-    text: &mut Vec<u8>,
-    alloc: Global,
-    number: u32,
-    last: usize,
-    end: &str,
-) -> Result<(), Fail> {
-    text.extend_from_slice(format!(in alloc; "proc p{number} 0\n")?.as_str().as_bytes())?;
-    for _ in 0..63 {
-        put_repeated(text, "reply \"", "x", 64, "\"\n")?;
+// Whether there are so many tables and calls, and turns.
+fn has_counts(load: &Workload) -> bool {
+    load.declarations.tables.len() == 1 && load.calls.len() == 5 && load.turns.is_some()
+}
+
+// Whether the third call is one of the declared procedure with three arguments.
+fn calls_move(load: &Workload) -> bool {
+    if load.calls.len() <= 2 {
+        return false;
     }
-    put_repeated(text, "reply \"", "x", last, "\"\n")?;
-    text.extend_from_slice(end.as_bytes())?;
-    Ok(())
+    let call = load.calls.call_at(2);
+    call.proc == 4 && call.args.len() == 3
 }
 
-// Checks the line and the cause of these declarations at the start of a workload.
-fn tells_large(
-    rt: &impl Abort,
-    alloc: Global,
-    last: usize,
-    end: &str,
-    wanted: (u32, u8),
-) -> Result<(), Fail> {
-    let text = large_declarations(alloc, last, end)?;
-    assert_eq!(rt; outcome(alloc, text.as_slice()), wanted);
-    Ok(())
-}
-
-// Checks how long these declarations are, and their line and cause where they are to stand alone.
-fn tells_large_alone(
-    rt: &impl Abort,
-    alloc: Global,
-    last: usize,
-    length: usize,
-    wanted: (u32, u8),
-) -> Result<(), Fail> {
-    let text = large_declarations(alloc, last, "end\n")?;
-    assert_eq!(rt; text.len(), length);
-    assert_eq!(rt; outcome_of_declarations(alloc, text.as_slice()), wanted);
-    Ok(())
+// Whether the declarations are printed as the first 136 bytes of the text.
+fn declares(alloc: Global, load: &Workload) -> bool {
+    match print_declarations(alloc, &load.declarations) {
+        Ok(found) => { found.len() == 136 && TRANSFERS.as_bytes().starts_with(found.as_slice()) }
+        Err(_) => false,
+    }
 }
 
 #[test]
-fn canonical_declarations_of_32768_bytes(rt: HostRuntime) -> Result<(), Fail> {
-    tells_large(&rt, rt.alloc(), 30, "\n  end  \n", (0, 0))?;
-    tells_large(&rt, rt.alloc(), 31, "\n  end  \n", (469, 7))
-}
-
-#[test]
-fn declarations_alone_of_32768_bytes(rt: HostRuntime) -> Result<(), Fail> {
-    tells_large_alone(&rt, rt.alloc(), 30, 32_768, (0, 0))?;
-    tells_large_alone(&rt, rt.alloc(), 31, 32_769, (462, 7))
+fn transfers_are_read_and_printed(rt: HostRuntime) {
+    let load = parse_workload(rt.alloc(), TRANSFERS.as_bytes()).expect(&rt, "a workload");
+    assert!(rt; has_counts(&load) && is_move(load.declarations.procs.list()) && calls_move(&load));
+    assert!(rt; is_printed(rt.alloc(), &load, TRANSFERS) && declares(rt.alloc(), &load));
 }
