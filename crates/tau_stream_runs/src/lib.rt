@@ -2,12 +2,18 @@
 #![tactic(auto)]
 
 #[cfg(test)]
-mod acts;
-#[cfg(test)]
 mod digits;
 #[cfg(test)]
+mod disks;
+#[cfg(test)]
+mod hostile;
+#[cfg(test)]
 mod open;
+#[cfg(test)]
+mod order;
 #[cfg(test)]
 mod reopen;
 #[cfg(test)]
 mod stream;
+#[cfg(test)]
+mod writers;

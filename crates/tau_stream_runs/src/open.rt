@@ -1,228 +1,310 @@
-//! How streams are opened, on disks that fail, hold something or are new, and how they are closed again.
-use crate::acts::is_image;
-use crate::digits::bytes_of;
+//! How streams are opened, on disks that fail, hold something or are new, and how they are closed again, by the lines of a scene,
+//! which `= ` and the facts of the disks end:
+//!
+//! - `disks` with a number for each puts disks, of each of which this call fails, or none at 0; `holds` puts one that holds these bytes.
+//! - `open` opens so many of them and closes them again: it `failed` with a stream, a disk was `filled`, with its stream and length, or
+//!   they were `made`: how many streams, where the content of the last one ends, and how many disks were left meanwhile.
+use crate::digits::{bytes_of, is};
+use crate::disks::all_hold;
 use std::alloc::Global;
 use std::process::Abort;
 use std::test::*;
-use tau_base::NoMemory;
-use tau_disk::{MemDisk, Tear};
+use tau_disk::MemDisk;
 use tau_open::{OpenRefusal, close_streams, open_streams};
 
-// Opens the first disks as streams, and closes them again: the refusal, or how many streams there were, where the
-// content of the last one ended, and how many disks were left.
-fn opened(
-    alloc: Global,
-    disks: &mut Vec<MemDisk>,
-    n: u8,
-) -> Result<(Option<OpenRefusal>, [u64; 3]), Fail> {
-    if n > 16 {
-        return Err(Fail::new("too many streams"));
+/// Whether words are these numbers.
+fn are(words: &str, numbers: &[u64]) -> Option<bool> {
+    let mut given = words.split(' ');
+    for number in numbers {
+        if !is(given.next(), *number) {
+            return Some(false);
+        }
     }
-    if usize::from(n) > disks.len() {
-        return Err(Fail::new("too few disks"));
+    Some(given.next().is_none())
+}
+
+fn is_refusal(refusal: OpenRefusal, wanted: &str) -> Option<bool> {
+    match refusal {
+        OpenRefusal::Failed { stream } => are(
+            wanted.strip_prefix("failed ")?,
+            &[u64::from(stream)],
+        ),
+        OpenRefusal::NotEmpty { stream, length } => {
+            are(
+                wanted.strip_prefix("filled ")?,
+                &[u64::from(stream), length],
+            )
+        }
+        OpenRefusal::NoMemory => None,
+    }
+}
+
+/// Whether opening the first disks as streams, and closing them again, gives this.
+fn opens(alloc: Global, disks: &mut Vec<MemDisk>, words: &str) -> Option<bool> {
+    let (number, wanted) = words.split_once(' ')?;
+    let n = number.parse::<u8>().ok()?;
+    if n > 16 || usize::from(n) > disks.len() {
+        return None;
     }
     match open_streams(alloc, disks, n, b"table a\n") {
         Ok(writers) => {
-            let durable = writers.last().map_or(0, |writer| writer.durable());
+            let durable = match writers.last() {
+                Some(writer) => writer.durable(),
+                None => 0,
+            };
             let counts = [writers.len() as u64, durable, disks.len() as u64];
             close_streams(disks, writers);
-            Ok((None, counts))
+            are(wanted.strip_prefix("made ")?, &counts)
         }
-        Err(refusal) => Ok((Some(refusal), [0; 3])),
+        Err(refusal) => is_refusal(refusal, wanted),
     }
 }
 
-// The calls that each of the first four disks has had.
-fn calls_of(disks: &[MemDisk]) -> [u64; 4] {
-    let mut calls = [0; 4];
-    for (k, disk) in disks.iter().enumerate().take(4) {
-        calls[k] = disk.calls();
+fn puts_disks(alloc: Global, disks: &mut Vec<MemDisk>, words: &str) -> Option<bool> {
+    for word in words.split(' ') {
+        let disk = MemDisk::new(alloc, &[word.parse::<u32>().ok()?]).ok()?;
+        disks.push(disk).ok()?;
     }
-    calls
+    Some(true)
 }
 
-// The disk of one stream fails at a call, the others fail nowhere.
-fn planned(alloc: Global, at: u8, stream: u8, call: u32) -> Result<MemDisk, NoMemory> {
-    let failing = [call];
-    let count = usize::from(at == stream);
-    MemDisk::new(alloc, failing.get(..count).unwrap_or(&[]))
+fn puts_holding(alloc: Global, disks: &mut Vec<MemDisk>, digits: &str) -> Option<bool> {
+    let image = bytes_of(alloc, digits)?;
+    disks
+        .push(MemDisk::of_image(alloc, image.as_slice()).ok()?)
+        .ok()?;
+    Some(true)
 }
 
-// How many calls each of four disks has had once n of them were opened, of which one fails at a call.
-fn calls_made(
-    alloc: Global,
-    n: u8,
-    stream: u8,
-    call: u32,
-) -> Result<(Option<OpenRefusal>, [u64; 4]), Fail> {
+fn does(alloc: Global, disks: &mut Vec<MemDisk>, line: &str) -> Option<bool> {
+    let (word, rest) = line.split_once(' ').unwrap_or((line, ""));
+    match word {
+        "#" => Some(true),
+        "disks" => puts_disks(alloc, disks, rest),
+        "holds" => puts_holding(alloc, disks, rest),
+        "open" => opens(alloc, disks, rest),
+        _ => None,
+    }
+}
+
+fn play_scene(rt: &impl Abort, alloc: Global, scene: &str) {
+    let (acts, facts) = scene.split_once("\n= ").unwrap_or((scene, "no facts"));
     let mut disks = Vec::new(alloc);
-    for at in 0..4u8 {
-        disks.push(planned(alloc, at, stream, call)?)?;
+    for line in acts.lines() {
+        assert!(rt; does(alloc, &mut disks, line) == Some(true), "{line}");
     }
-    let (refusal, _) = opened(alloc, &mut disks, n)?;
-    Ok((refusal, calls_of(&disks)))
+    all_hold(rt, alloc, disks.as_slice(), facts, scene);
 }
 
-// The calls of a disk: none of one that is not used; all seven of one whose stream is made, one of one that was asked.
-fn wanted(at: u8, n: u8, stream: u8, call: u32) -> u64 {
-    if at >= n {
-        return 0;
-    }
-    if at == stream {
-        return u64::from(call);
-    }
-    match (call == 1, at < stream) {
-        (true, before) => u64::from(before),
-        (false, true) => 7,
-        (false, false) => 1,
+fn play(rt: &impl Abort, alloc: Global, text: &str) {
+    for scene in text.split("\n\n") {
+        play_scene(rt, alloc, scene);
     }
 }
 
-// The refusal, and the calls of all four disks, when the disk of one stream fails at a call.
-fn fails(
-    rt: &impl Abort,
-    alloc: Global,
-    n: u8,
-    stream: u8,
-    call: u32,
-    refusal: Option<OpenRefusal>,
-    calls: [u64; 4],
-) -> Result<(), Fail> {
-    let made = calls_made(alloc, n, stream, call)?;
-    assert!(rt;
-        made.0 == refusal && made.1 == calls,
-        "{call} of {stream} of {n}"
-    );
-    Ok(())
-}
+/// Each disk is asked its length first, the lowest first, and then the streams are made, with six calls each.
+static OPENINGS: &str = "\
+# The lowest disk that holds bytes is named, and all of them stay.
+holds
+holds 616263
+holds 61626364
+holds 6162636465
+open 3 filled 1 3
+= calls 1 1 1 0, old 0, old 1 616263, old 2 61626364, old 3 6162636465
 
-fn each_call_of(rt: &impl Abort, alloc: Global, n: u8, stream: u8) -> Result<(), Fail> {
-    for call in 1..8u32 {
-        let calls = [
-            wanted(0, n, stream, call),
-            wanted(1, n, stream, call),
-            wanted(2, n, stream, call),
-            0,
-        ];
-        let refusal = OpenRefusal::Failed { stream };
-        fails(rt, alloc, n, stream, call, Some(refusal), calls)?;
-    }
-    Ok(())
-}
+# Two streams, the second one's content ended at 13, and two disks were left. All come back in order.
+holds
+holds
+holds 616263
+holds 61626364
+open 2 made 2 13 2
+= calls 7 7 0 0, old 0 5441555255532d4c4f472d31 0002 0000 01 0000000d 04 0000000d 7461626c6520610a 00, old 1 5441555255532d4c4f472d31 0002 0001 01 0000000d 04 0000000d 7461626c6520610a 00, old 2 616263, old 3 61626364
+
+# Sixteen new disks. No disk was left meanwhile.
+disks 0 0 0 0 0 0 0 0 0 0 0 0 0 0 0 0
+open 16 made 16 13 0
+= calls 7 7 7 7 7 7 7 7 7 7 7 7 7 7 7 7, old 0 5441555255532d4c4f472d31 0010 0000 01 0000000d 04 0000000d 7461626c6520610a 00, old 1 5441555255532d4c4f472d31 0010 0001 01 0000000d 04 0000000d 7461626c6520610a 00, old 2 5441555255532d4c4f472d31 0010 0002 01 0000000d 04 0000000d 7461626c6520610a 00, old 3 5441555255532d4c4f472d31 0010 0003 01 0000000d 04 0000000d 7461626c6520610a 00, old 4 5441555255532d4c4f472d31 0010 0004 01 0000000d 04 0000000d 7461626c6520610a 00, old 5 5441555255532d4c4f472d31 0010 0005 01 0000000d 04 0000000d 7461626c6520610a 00, old 6 5441555255532d4c4f472d31 0010 0006 01 0000000d 04 0000000d 7461626c6520610a 00, old 7 5441555255532d4c4f472d31 0010 0007 01 0000000d 04 0000000d 7461626c6520610a 00, old 8 5441555255532d4c4f472d31 0010 0008 01 0000000d 04 0000000d 7461626c6520610a 00, old 9 5441555255532d4c4f472d31 0010 0009 01 0000000d 04 0000000d 7461626c6520610a 00, old 10 5441555255532d4c4f472d31 0010 000a 01 0000000d 04 0000000d 7461626c6520610a 00, old 11 5441555255532d4c4f472d31 0010 000b 01 0000000d 04 0000000d 7461626c6520610a 00, old 12 5441555255532d4c4f472d31 0010 000c 01 0000000d 04 0000000d 7461626c6520610a 00, old 13 5441555255532d4c4f472d31 0010 000d 01 0000000d 04 0000000d 7461626c6520610a 00, old 14 5441555255532d4c4f472d31 0010 000e 01 0000000d 04 0000000d 7461626c6520610a 00, old 15 5441555255532d4c4f472d31 0010 000f 01 0000000d 04 0000000d 7461626c6520610a 00";
 
 #[test]
-fn each_call_fails_in_turn(rt: HostRuntime) -> Result<(), Fail> {
-    for n in 1..4u8 {
-        for stream in 0..n {
-            each_call_of(&rt, rt.alloc(), n, stream)?;
-        }
-    }
-    fails(&rt, rt.alloc(), 2, 1, 8, None, [7, 7, 0, 0])
+fn what_comes_of_openings(rt: HostRuntime) {
+    play(&rt, rt.alloc(), OPENINGS);
 }
 
-/// The images of four disks, how many of them are opened, what comes of it, the calls of each, and the images then.
-type Row = (
-    &'static [&'static str],
-    u8,
-    (Option<OpenRefusal>, [u64; 3]),
-    [u64; 4],
-    &'static [&'static str],
-);
+/// Each call of each disk fails in turn, where one, two or three streams are opened. Of the last disk the call is one that is not made.
+static FAILING: &str = "\
+disks 1 0 0 0
+open 1 failed 0
+= calls 1 0 0 0
 
-/// Stream 0 and stream 1 of two that were just made, with the catalogue of `table a`.
-const FIRST: &str =
-    "5441555255532d4c4f472d31 0002 0000 01 0000000d 04 0000000d 7461626c6520610a 00";
+disks 2 0 0 0
+open 1 failed 0
+= calls 2 0 0 0
 
-const SECOND: &str =
-    "5441555255532d4c4f472d31 0002 0001 01 0000000d 04 0000000d 7461626c6520610a 00";
+disks 3 0 0 0
+open 1 failed 0
+= calls 3 0 0 0
 
-static ROWS: [Row; 2] = [
-    // The lowest disk that holds bytes is named, and all of them stay.
-    (
-        &["", "616263", "61626364", "6162636465"],
-        3,
-        (
-            Some(OpenRefusal::NotEmpty {
-                stream: 1,
-                length: 3,
-            }),
-            [0, 0, 0],
-        ),
-        [1, 1, 1, 0],
-        &["", "616263", "61626364", "6162636465"],
-    ),
-    // Two streams, the second one's content ended at 13, and two disks were left. All come back in order.
-    (
-        &["", "", "616263", "61626364"],
-        2,
-        (None, [2, 13, 2]),
-        [7, 7, 0, 0],
-        &[FIRST, SECOND, "616263", "61626364"],
-    ),
-];
+disks 4 0 0 0
+open 1 failed 0
+= calls 4 0 0 0
 
-// A disk for each of these images.
-fn holding(alloc: Global, images: &[&str]) -> Result<Vec<MemDisk>, Fail> {
-    let mut disks = Vec::new(alloc);
-    for digits in images {
-        let image = bytes_of(alloc, digits)?;
-        disks.push(MemDisk::of_image(alloc, image.as_slice())?)?;
-    }
-    Ok(disks)
-}
+disks 5 0 0 0
+open 1 failed 0
+= calls 5 0 0 0
 
-fn hold(rt: &impl Abort, alloc: Global, disks: &[MemDisk], images: &[&str]) -> Result<(), Fail> {
-    assert_eq!(rt; disks.len(), images.len());
-    for (disk, digits) in disks.iter().zip(images.iter()) {
-        is_image(rt, alloc, disk, Tear::Old, digits)?;
-    }
-    Ok(())
-}
+disks 6 0 0 0
+open 1 failed 0
+= calls 6 0 0 0
 
-fn open_rows(rt: &impl Abort, alloc: Global, rows: &[Row]) -> Result<(), Fail> {
-    for (before, n, told, calls, after) in rows {
-        let mut disks = holding(alloc, before)?;
-        let found = opened(alloc, &mut disks, *n)?;
-        assert!(rt; found == *told && calls_of(&disks) == *calls);
-        hold(rt, alloc, &disks, after)?;
-    }
-    Ok(())
-}
+disks 7 0 0 0
+open 1 failed 0
+= calls 7 0 0 0
+
+disks 1 0 0 0
+open 2 failed 0
+= calls 1 0 0 0
+
+disks 2 0 0 0
+open 2 failed 0
+= calls 2 1 0 0
+
+disks 3 0 0 0
+open 2 failed 0
+= calls 3 1 0 0
+
+disks 4 0 0 0
+open 2 failed 0
+= calls 4 1 0 0
+
+disks 5 0 0 0
+open 2 failed 0
+= calls 5 1 0 0
+
+disks 6 0 0 0
+open 2 failed 0
+= calls 6 1 0 0
+
+disks 7 0 0 0
+open 2 failed 0
+= calls 7 1 0 0
+
+disks 0 1 0 0
+open 2 failed 1
+= calls 1 1 0 0
+
+disks 0 2 0 0
+open 2 failed 1
+= calls 7 2 0 0
+
+disks 0 3 0 0
+open 2 failed 1
+= calls 7 3 0 0
+
+disks 0 4 0 0
+open 2 failed 1
+= calls 7 4 0 0
+
+disks 0 5 0 0
+open 2 failed 1
+= calls 7 5 0 0
+
+disks 0 6 0 0
+open 2 failed 1
+= calls 7 6 0 0
+
+disks 0 7 0 0
+open 2 failed 1
+= calls 7 7 0 0
+
+disks 1 0 0 0
+open 3 failed 0
+= calls 1 0 0 0
+
+disks 2 0 0 0
+open 3 failed 0
+= calls 2 1 1 0
+
+disks 3 0 0 0
+open 3 failed 0
+= calls 3 1 1 0
+
+disks 4 0 0 0
+open 3 failed 0
+= calls 4 1 1 0
+
+disks 5 0 0 0
+open 3 failed 0
+= calls 5 1 1 0
+
+disks 6 0 0 0
+open 3 failed 0
+= calls 6 1 1 0
+
+disks 7 0 0 0
+open 3 failed 0
+= calls 7 1 1 0
+
+disks 0 1 0 0
+open 3 failed 1
+= calls 1 1 0 0
+
+disks 0 2 0 0
+open 3 failed 1
+= calls 7 2 1 0
+
+disks 0 3 0 0
+open 3 failed 1
+= calls 7 3 1 0
+
+disks 0 4 0 0
+open 3 failed 1
+= calls 7 4 1 0
+
+disks 0 5 0 0
+open 3 failed 1
+= calls 7 5 1 0
+
+disks 0 6 0 0
+open 3 failed 1
+= calls 7 6 1 0
+
+disks 0 7 0 0
+open 3 failed 1
+= calls 7 7 1 0
+
+disks 0 0 1 0
+open 3 failed 2
+= calls 1 1 1 0
+
+disks 0 0 2 0
+open 3 failed 2
+= calls 7 7 2 0
+
+disks 0 0 3 0
+open 3 failed 2
+= calls 7 7 3 0
+
+disks 0 0 4 0
+open 3 failed 2
+= calls 7 7 4 0
+
+disks 0 0 5 0
+open 3 failed 2
+= calls 7 7 5 0
+
+disks 0 0 6 0
+open 3 failed 2
+= calls 7 7 6 0
+
+disks 0 0 7 0
+open 3 failed 2
+= calls 7 7 7 0
+
+disks 0 8 0 0
+open 2 made 2 13 2
+= calls 7 7 0 0";
 
 #[test]
-fn what_comes_of_openings(rt: HostRuntime) -> Result<(), Fail> {
-    open_rows(&rt, rt.alloc(), &ROWS)
-}
-
-// Sixteen new disks, which were opened and closed. No disk was left meanwhile.
-fn sixteen(rt: &impl Abort, alloc: Global) -> Result<Vec<MemDisk>, Fail> {
-    let mut disks = Vec::new(alloc);
-    for _ in 0..16u8 {
-        disks.push(MemDisk::new(alloc, &[])?)?;
-    }
-    let told = opened(alloc, &mut disks, 16)?;
-    assert!(rt; told == (None, [16, 13, 0]) && disks.len() == 16);
-    Ok(disks)
-}
-
-// The disk holds the header of that stream of 16, and the catalogue of `table a`, and has had seven calls.
-fn begins(rt: &impl Abort, alloc: Global, disk: &MemDisk, j: u8) -> Result<(), Fail> {
-    let mut wanted = Vec::from_slice(alloc, b"TAURUS-LOG-1\x00\x10\x00")?;
-    wanted.push(j)?;
-    wanted.extend_from_slice(b"\x01\x00\x00\x00\x0d\x04\x00\x00\x00\x0dtable a\n\x00")?;
-    let image = disk.image(Tear::Old)?;
-    assert!(rt;
-        image.as_slice() == wanted.as_slice() && disk.calls() == 7,
-        "disk {j}"
-    );
-    Ok(())
-}
-
-#[test]
-fn sixteen_streams(rt: HostRuntime) -> Result<(), Fail> {
-    let disks = sixteen(&rt, rt.alloc())?;
-    for (j, disk) in (0..16u8).zip(disks.iter()) {
-        begins(&rt, rt.alloc(), disk, j)?;
-    }
-    Ok(())
+fn each_call_fails_in_turn(rt: HostRuntime) {
+    play(&rt, rt.alloc(), FAILING);
 }
