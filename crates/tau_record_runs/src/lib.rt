@@ -4,14 +4,6 @@
 #[cfg(test)]
 mod bytes;
 #[cfg(test)]
-mod causes;
+mod scenes;
 #[cfg(test)]
-mod contents;
-#[cfg(test)]
-mod kept;
-#[cfg(test)]
-mod rows;
-#[cfg(test)]
-mod spelled;
-#[cfg(test)]
-mod support;
+mod words;
