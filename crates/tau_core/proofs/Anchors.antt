@@ -7,12 +7,12 @@ use Rattle.std.proofs.Math.Path.{fun_ext}
 use Rattle.tau_base.proofs.Vectors.{at_most_itself}
 use Rattle.tau_model.specs.History.{Act}
 use Rattle.tau_machine.specs.Hands.{Txn}
-use Rattle.tau_machine.specs.Shard.{at}
+use Rattle.tau_shard.specs.Shard.{at}
 use Rattle.tau_machine.specs.State.{Core, Stream, Item, Record, Anchor}
 use Rattle.tau_machine.specs.Events.{with_stream, Leads, PlaceAnchor}
 use Rattle.tau_machine.specs.Invariant.{Invariant}
 use Rattle.tau_outbox.specs.declared.Piece.{Piece}
-use Rattle.tau_machine.proofs.At.{at_same, at_other}
+use Rattle.tau_shard.proofs.At.{at_same, at_other}
 use Rattle.tau_machine.proofs.Pieces.{chain_member}
 use Rattle.tau_base.specs.Modes.{format_of}
 use Rattle.tau_record.specs.Record.{Spells}

@@ -3,12 +3,12 @@ use Rattle.std.proofs.Common.{ℕ, ◌≡◌, List, [], ◌∷◌, ◌++◌, ref
 use Rattle.std.specs.Prelude.{Some, None}
 use Rattle.tau_model.specs.History.{Act, Numbered}
 use Rattle.tau_machine.specs.Hands.{Txn, Hand, Freeing, committed_of}
-use Rattle.tau_machine.specs.Shard.{at, Shard, entry_in, shard_locked}
+use Rattle.tau_shard.specs.Shard.{at, Shard, entry_in, shard_locked}
 use Rattle.tau_machine.specs.Worker.{Worker, begun, begun_by, hand_locked, settled, hand_busy, hand_joined}
 use Rattle.tau_machine.specs.State.{Setting, Core, Outbox, Record}
 use Rattle.tau_machine.specs.Pieces.{placed_in}
 use Rattle.tau_machine.specs.Events.{with_worker, with_shard, ready, Locks, Refuses, Reads}
-use Rattle.tau_machine.proofs.At.{at_same}
+use Rattle.tau_shard.proofs.At.{at_same}
 use Rattle.tau_machine.proofs.States.{again}
 use Rattle.tau_model.specs.declared.committed.Committed.{Committed}
 use Rattle.tau_txn.specs.Txn.{hand_in, bytes_in}

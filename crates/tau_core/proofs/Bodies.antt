@@ -8,10 +8,10 @@ use Rattle.std.proofs.Math.Path.{fun_ext}
 use Rattle.tau_base.specs.declared.limits.TheConstants.{MAX_BODY}
 use Rattle.tau_model.specs.History.{Act}
 use Rattle.tau_machine.specs.Hands.{Txn}
-use Rattle.tau_machine.specs.Shard.{at}
+use Rattle.tau_shard.specs.Shard.{at}
 use Rattle.tau_machine.specs.Invariant.{Invariant}
 use Rattle.tau_machine.specs.State.{Core, Stream, Record}
-use Rattle.tau_machine.proofs.At.{at_same, at_other}
+use Rattle.tau_shard.proofs.At.{at_same, at_other}
 use Rattle.tau_txn.specs.Txn.{bytes_in}
 use Rattle.tau_core.specs.Plain.{PlainStream}
 use Rattle.tau_core.specs.State.{Plain}

@@ -4,7 +4,7 @@ use Rattle.std.specs.Prelude.{Some, slice_get, slice_set}
 use Rattle.std.proofs.lemmas.Option.{slice_get_within}
 use Rattle.tau_model.specs.History.{Act}
 use Rattle.tau_machine.specs.Hands.{Txn}
-use Rattle.tau_machine.specs.Shard.{at, Shard, Dropped}
+use Rattle.tau_shard.specs.Shard.{at, Shard, Dropped}
 use Rattle.tau_machine.specs.State.{Ticket, Core, Outbox, Record}
 use Rattle.tau_machine.specs.Shapes.{ShardShape}
 use Rattle.tau_machine.specs.Worker.{Worker}

@@ -5,14 +5,14 @@ use Rattle.tau_base.specs.Vectors.{join}
 use Rattle.tau_model.specs.History.{Act}
 use Rattle.tau_model.specs.declared.committed.Committed.{Committed}
 use Rattle.tau_machine.specs.Hands.{Txn, Placed, committed_of}
-use Rattle.tau_machine.specs.Shard.{at}
+use Rattle.tau_shard.specs.Shard.{at}
 use Rattle.tau_machine.specs.Worker.{Worker, hand_joined}
 use Rattle.tau_machine.specs.Invariant.{Invariant}
 use Rattle.tau_machine.specs.Pieces.{placed_in}
 use Rattle.tau_machine.specs.State.{Outbox, Record}
 use Rattle.tau_machine.specs.Events as event
 use Rattle.tau_machine.specs.Events.{with_worker, ready}
-use Rattle.tau_machine.proofs.At.{at_itself}
+use Rattle.tau_shard.proofs.At.{at_itself}
 use Rattle.tau_txn.specs.Txn.{hand_in, bytes_in}
 use Rattle.tau_outbox.specs.declared.Piece.{Piece}
 use Rattle.tau_core.specs.Plain.{PlainSeat}

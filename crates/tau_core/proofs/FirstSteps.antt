@@ -12,7 +12,7 @@ use Rattle.tau_machine.specs.Invariant.{Invariant}
 use Rattle.tau_machine.specs.Events as machine
 use Rattle.tau_machine.specs.Events.{with_worker, Leads, ready}
 use Rattle.tau_machine.proofs.Shapes.{invariant_kept}
-use Rattle.tau_machine.proofs.At.{at_same}
+use Rattle.tau_shard.proofs.At.{at_same}
 use Rattle.tau_txn.specs.Txn.{hand_in}
 use Rattle.tau_core.specs.declared.event.Phase.{Phase}
 use Rattle.tau_core.specs.declared.event.Phase.TheVariants.{Resting, Locking, Ended}

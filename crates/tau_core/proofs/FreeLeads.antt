@@ -11,14 +11,14 @@ use Rattle.tau_model.specs.History.{Act, Reordered}
 use Rattle.tau_model.specs.declared.committed.Committed.{Committed}
 use Rattle.tau_model.proofs.Reorder.{reordered_itself}
 use Rattle.tau_machine.specs.Hands.{Txn, Hand, Freeing, lv_of, committed_of}
-use Rattle.tau_machine.specs.Shard.{at, Shard, shard_freed}
+use Rattle.tau_shard.specs.Shard.{at, Shard, shard_freed}
 use Rattle.tau_machine.specs.Worker.{Worker, hand_joined, hand_freed}
 use Rattle.tau_machine.specs.Invariant.{Invariant}
 use Rattle.tau_machine.specs.Pieces.{placed_in}
 use Rattle.tau_machine.specs.Shapes.{ShardShape}
 use Rattle.tau_machine.specs.State.{Core, Outbox, Ticket, ticket, Record}
 use Rattle.tau_machine.specs.Events.{with_worker, with_shard, with_outbox, ready, Frees, Reads, Finishes}
-use Rattle.tau_machine.proofs.At.{at_same, at_itself}
+use Rattle.tau_shard.proofs.At.{at_same, at_itself}
 use Rattle.tau_shard.specs.Plain.{PlainShard}
 use Rattle.tau_shard.specs.Read.{shard_of}
 use Rattle.tau_machine.proofs.States.{again}

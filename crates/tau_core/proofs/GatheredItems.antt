@@ -5,7 +5,7 @@ use Rattle.std.proofs.lemmas.List.{append-nil}
 use Rattle.tau_machine.specs.State.{Setting, Item, past_of, Core, Stream, Outbox}
 use Rattle.tau_machine.specs.Pieces.{Chain}
 use Rattle.tau_machine.specs.Events.{with_stream, with_outbox, GathersRecord, GathersAnchor, Gathered, stop, record_first, anchor_first}
-use Rattle.tau_machine.proofs.At.{at_same, at_at, at_itself}
+use Rattle.tau_shard.proofs.At.{at_same, at_at, at_itself}
 use Rattle.tau_base.proofs.Lists.{set_itself}
 
 pub set_set : {A : Type 0} (xs : List A) (i : ℕ) (a b : A) → slice_set (slice_set xs i a) i b ≡ slice_set xs i b

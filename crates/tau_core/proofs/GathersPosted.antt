@@ -5,11 +5,11 @@ use Rattle.std.proofs.lemmas.Option.{slice_get_within}
 use Rattle.std.proofs.Math.Path.{fun_ext}
 use Rattle.tau_model.specs.History.{Act, Member}
 use Rattle.tau_machine.specs.Hands.{Txn}
-use Rattle.tau_machine.specs.Shard.{at}
+use Rattle.tau_shard.specs.Shard.{at}
 use Rattle.tau_machine.specs.State.{Core, Stream, Outbox, Item, Record, start_of, past_of}
 use Rattle.tau_machine.specs.Pieces.{Chain, placed_in}
 use Rattle.tau_machine.specs.Events.{Gathered, Leads, Gather}
-use Rattle.tau_machine.proofs.At.{at_same, at_other}
+use Rattle.tau_shard.proofs.At.{at_same, at_other}
 use Rattle.tau_machine.proofs.Pieces.{chain_member}
 use Rattle.tau_model.proofs.Orders.{member_front}
 use Rattle.tau_outbox.specs.declared.Piece.{Piece}

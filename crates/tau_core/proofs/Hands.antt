@@ -12,7 +12,7 @@ use Rattle.tau_model.specs.History.{Numbered}
 use Rattle.tau_machine.specs.Hands.{Hand}
 use Rattle.tau_machine.specs.Pieces.{placed_in, placed_of}
 use Rattle.tau_machine.specs.Worker.{hand_locked}
-use Rattle.tau_machine.specs.Shard.{Entry, Shard, entry_in, entry_or}
+use Rattle.tau_shard.specs.Shard.{Entry, Shard, entry_in, entry_or}
 use Rattle.tau_machine.specs.Shapes.{ShardShape}
 use Rattle.tau_shard.specs.Blocks.{dep_locked}
 use Rattle.tau_outbox.specs.Pieces.{PlainOutbox}

@@ -17,7 +17,7 @@ use Rattle.tau_base.specs.declared.value.Mode.{Mode}
 use Rattle.tau_base.specs.Shards.{shard_number}
 use Rattle.tau_model.specs.History.{Act}
 use Rattle.tau_machine.specs.Hands.{Txn, Hand, Phase, Freeing, mode_of, held_in}
-use Rattle.tau_machine.specs.Shard.{Shard, entry_in}
+use Rattle.tau_shard.specs.Shard.{Shard, entry_in}
 use Rattle.tau_machine.specs.Worker.{Worker}
 use Rattle.tau_shard.specs.Plain.{PlainShard}
 use Rattle.tau_shard.specs.Read.{shard_of}

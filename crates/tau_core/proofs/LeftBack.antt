@@ -6,7 +6,7 @@ use Rattle.tau_base.specs.declared.value.Call.{Call}
 use Rattle.tau_model.specs.History.{Act, Numbered, Member}
 use Rattle.tau_model.specs.declared.committed.Committed.{Committed}
 use Rattle.tau_machine.specs.Hands.{Txn}
-use Rattle.tau_machine.specs.Shard.{at}
+use Rattle.tau_shard.specs.Shard.{at}
 use Rattle.tau_machine.specs.Pieces.{placed_in}
 use Rattle.tau_machine.specs.Worker.{Worker}
 use Rattle.tau_machine.specs.Invariant.{Invariant}

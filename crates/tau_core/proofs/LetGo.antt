@@ -8,9 +8,9 @@ use Rattle.tau_model.specs.History.{Act}
 use Rattle.tau_machine.specs.Hands.{Txn, Hand, act_of}
 use Rattle.tau_machine.specs.Worker.{Worker}
 use Rattle.tau_machine.specs.Invariant.{Invariant}
-use Rattle.tau_machine.specs.Shard.{at}
+use Rattle.tau_shard.specs.Shard.{at}
 use Rattle.tau_machine.specs.State.{Setting, Core}
-use Rattle.tau_machine.proofs.At.{at_same, at_other, at_itself}
+use Rattle.tau_shard.proofs.At.{at_same, at_other, at_itself}
 use Rattle.tau_machine.proofs.Results.{let_go_theorem}
 use Rattle.tau_core.specs.Parts.{idle, all_idle, nobody}
 

@@ -4,8 +4,8 @@ use Rattle.std.specs.Prelude.{Some, None, slice_get, slice_set}
 use Rattle.std.proofs.Math.Path.{fun_ext}
 use Rattle.std.proofs.lemmas.Bool.{cases_eq}
 use Rattle.tau_model.specs.History.{Member}
-use Rattle.tau_machine.specs.Shard.{at}
-use Rattle.tau_machine.proofs.At.{at_same, at_other}
+use Rattle.tau_shard.specs.Shard.{at}
+use Rattle.tau_shard.proofs.At.{at_same, at_other}
 
 pub got_same : {A : Type 0} (xs : List A) (i : ℕ) (x : A) → i < length xs → slice_get (slice_set xs i x) i ≡ Some x
 got_same [] i x lt = absurd (omega arith)

@@ -14,7 +14,7 @@ use Rattle.tau_model.specs.declared.committed.Committed.{Committed}
 use Rattle.tau_machine.specs.Accounts.{in_worker}
 use Rattle.std.proofs.Math.Nat.{mod-lt}
 use Rattle.tau_machine.specs.Hands.{Txn, Hand}
-use Rattle.tau_machine.specs.Shard as machine
+use Rattle.tau_shard.specs.Shard as machine
 use Rattle.tau_machine.specs.Worker.{Worker}
 use Rattle.tau_machine.specs.Pieces.{placed_in}
 use Rattle.tau_machine.specs.Runs.{IsOpening}

@@ -7,7 +7,7 @@ use Rattle.std.proofs.Math.Path.{fun_ext}
 use Rattle.tau_model.specs.History.{Act}
 use Rattle.tau_machine.specs.Hands.{Txn}
 use Rattle.tau_machine.specs.State.{Setting, Core, Stream, Record}
-use Rattle.tau_machine.specs.Shard as machine
+use Rattle.tau_shard.specs.Shard as machine
 use Rattle.tau_machine.specs.Invariant.{Invariant}
 use Rattle.tau_machine.specs.Events.{with_stream, Event, Leads, Persist, Stop}
 use Rattle.tau_machine.proofs.Shapes.{invariant_kept}

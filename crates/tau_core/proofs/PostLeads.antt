@@ -4,13 +4,13 @@ use Rattle.std.specs.Prelude.{Some, None, slice_set}
 use Rattle.tau_model.specs.History.{Act}
 use Rattle.tau_model.specs.declared.committed.Committed.{Committed}
 use Rattle.tau_machine.specs.Hands.{Txn, Freeing}
-use Rattle.tau_machine.specs.Shard.{at}
+use Rattle.tau_shard.specs.Shard.{at}
 use Rattle.tau_machine.specs.Worker.{Worker}
 use Rattle.tau_machine.specs.Invariant.{Invariant}
 use Rattle.tau_machine.specs.Pieces.{placed_in, placed_of}
 use Rattle.tau_machine.specs.State.{Item, Outbox, Record}
 use Rattle.tau_machine.specs.Events.{with_worker, with_outbox, Leads, Post}
-use Rattle.tau_machine.proofs.At.{at_same, at_other}
+use Rattle.tau_shard.proofs.At.{at_same, at_other}
 use Rattle.tau_outbox.specs.declared.Piece.{Piece}
 use Rattle.tau_txn.specs.Txn.{hand_in, bytes_in}
 use Rattle.tau_core.specs.Plain.{PlainSeat}

@@ -5,13 +5,13 @@ use Rattle.tau_base.specs.declared.limits.TheConstants.{SHARDS}
 use Rattle.tau_base.specs.Shards.{shard_number}
 use Rattle.tau_model.specs.History.{Act}
 use Rattle.tau_machine.specs.Hands.{Txn}
-use Rattle.tau_machine.specs.Shard.{at, Shard}
+use Rattle.tau_shard.specs.Shard.{at, Shard}
 use Rattle.tau_machine.specs.Worker.{Worker, hand_busy, settled}
 use Rattle.tau_machine.specs.Invariant.{Invariant}
 use Rattle.tau_machine.specs.State.{Core}
 use Rattle.tau_machine.specs.Events as machine
 use Rattle.tau_machine.specs.Events.{Leads, Refuses, ready}
-use Rattle.tau_machine.proofs.At.{at_itself}
+use Rattle.tau_shard.proofs.At.{at_itself}
 use Rattle.tau_shard.specs.Plain.{PlainShard}
 use Rattle.tau_core.specs.declared.event.Phase.{Phase}
 use Rattle.tau_core.specs.declared.event.Phase.TheVariants.{Locking}

@@ -17,9 +17,9 @@ use Rattle.tau_base.specs.Vectors.{AtMost, join}
 use Rattle.tau_base.proofs.Keys.{same_key_is}
 use Rattle.tau_base.proofs.Vectors.{join_below, join_wider, at_most_itself, at_most_trans}
 use Rattle.tau_model.specs.Tables.{db_of_rows}
-use Rattle.tau_machine.specs.Shard as machine
-use Rattle.tau_machine.specs.Shard.{at, entry_in, put_entry, held_as, shard_locked, shard_freed, Dropped}
-use Rattle.tau_machine.proofs.At.{at_same, at_other, entry_same}
+use Rattle.tau_shard.specs.Shard as machine
+use Rattle.tau_shard.specs.Shard.{at, entry_in, put_entry, held_as, shard_locked, shard_freed, Dropped}
+use Rattle.tau_shard.proofs.At.{at_same, at_other, entry_same}
 use Rattle.tau_shard.specs.Plain.{PlainShard}
 use Rattle.tau_shard.specs.Read.{shard_of}
 use Rattle.tau_shard.specs.Blocks.{empty}

@@ -10,14 +10,14 @@ use Rattle.tau_base.specs.Database.{key_cmp}
 use Rattle.tau_base.specs.declared.value.Key.{Key}
 use Rattle.tau_base.specs.declared.value.Mode.{Mode}
 use Rattle.tau_machine.specs.Hands.{Txn, Hand, Running, Quitting, mode_of}
-use Rattle.tau_machine.specs.Shard.{at, Shard, shard_quit}
+use Rattle.tau_shard.specs.Shard.{at, Shard, shard_quit}
 use Rattle.tau_machine.specs.Worker.{Worker, hand_busy, hand_quit, settled}
 use Rattle.tau_machine.specs.Invariant.{Invariant}
 use Rattle.tau_machine.specs.Pieces.{placed_in}
 use Rattle.tau_machine.specs.Shapes.{ShardShape}
 use Rattle.tau_machine.specs.State.{Record}
 use Rattle.tau_machine.specs.Events.{with_worker, with_shard, ready, Refuses, Quits}
-use Rattle.tau_machine.proofs.At.{at_itself}
+use Rattle.tau_shard.proofs.At.{at_itself}
 use Rattle.tau_ack.specs.Pending.{PlainPending}
 use Rattle.tau_outbox.specs.Pieces.{PlainOutbox}
 use Rattle.tau_shard.specs.Plain.{PlainShard}

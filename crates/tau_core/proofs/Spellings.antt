@@ -1,7 +1,7 @@
 -- Pieces, their items and their bytes.
 use Rattle.std.proofs.Common.{ℕ, ◌+◌, ◌<◌, ◌≤◌, ◌≡◌, inl, inr, List, [], ◌∷◌, ◌++◌, length, refl, sym, ap, subst, ◌∙◌, append_assoc, arith, length-append}
 use Rattle.tau_model.specs.History.{Member}
-use Rattle.tau_machine.specs.Shard.{at}
+use Rattle.tau_shard.specs.Shard.{at}
 use Rattle.tau_machine.specs.State.{Item, start_of, past_of}
 use Rattle.tau_machine.specs.Pieces.{Chain}
 use Rattle.tau_machine.proofs.Pieces.{chain_low}

@@ -7,7 +7,7 @@ use Rattle.tau_base.specs.Shards.{shard_number}
 use Rattle.tau_model.specs.History.{Act}
 use Rattle.tau_model.specs.declared.committed.Committed.{Committed}
 use Rattle.tau_machine.specs.Hands.{Txn, Hand, Running}
-use Rattle.tau_machine.specs.Shard.{at, Shard, entry_in, shard_locked}
+use Rattle.tau_shard.specs.Shard.{at, Shard, entry_in, shard_locked}
 use Rattle.tau_machine.specs.Worker.{Worker, hand_locked}
 use Rattle.tau_machine.specs.Invariant.{Invariant}
 use Rattle.tau_machine.specs.Pieces.{placed_in, placed_of}
@@ -28,7 +28,7 @@ use Rattle.tau_core.specs.Workers.{Takes}
 use Rattle.tau_core.proofs.Lists.{reads_got, each_got}
 use Rattle.tau_core.proofs.Seats.{seat_core, worker_of_seat, same_outbox, seat_inside, seat_sound, one_open}
 use Rattle.tau_core.proofs.Begins.{ready_in_hand}
-use Rattle.tau_shard.proofs.Bridge.{no_conflict}
+use Rattle.tau_machine.proofs.Conflicts.{no_conflict}
 use Rattle.tau_machine.proofs.Leads.{locked_phase}
 
 pub open_running : (o : Option Hand) (h : Hand) → o ≡ Some h → h.phase ≡ Running → is_open o ≡ true

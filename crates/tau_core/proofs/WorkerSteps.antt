@@ -6,7 +6,7 @@ use Rattle.tau_base.specs.Shards.{shard_number}
 use Rattle.tau_base.specs.declared.value.Value.{Value}
 use Rattle.tau_model.specs.History.{Act}
 use Rattle.tau_machine.specs.Hands.{Txn, Hand, Running}
-use Rattle.tau_machine.specs.Shard.{at, Shard, entry_in}
+use Rattle.tau_shard.specs.Shard.{at, Shard, entry_in}
 use Rattle.tau_base.specs.declared.value.Key.{Key}
 use Rattle.tau_base.specs.declared.value.Mode.{Mode}
 use Rattle.tau_machine.specs.Stage.{stage}
@@ -18,7 +18,7 @@ use Rattle.tau_machine.specs.Events.{with_worker, Leads, ready}
 use Rattle.tau_machine.proofs.Shapes.{invariant_kept}
 use Rattle.tau_shard.specs.Blocks.{IsLowest}
 use Rattle.tau_txn.specs.Txn.{hand_in, bytes_in}
-use Rattle.tau_machine.proofs.At.{at_itself}
+use Rattle.tau_shard.proofs.At.{at_itself}
 use Rattle.tau_machine.specs.Pieces.{placed_in}
 use Rattle.tau_machine.specs.Shapes.{ShardShape}
 use Rattle.tau_outbox.specs.declared.Piece.{Piece}

@@ -1,6 +1,6 @@
 -- What shards drop, and what the clerk acknowledges.
 use Rattle.std.specs.Prelude.{ℕ, ◌≡◌, ◌≤◌, Some, slice_get, slice_set}
-use Rattle.tau_machine.specs.Shard.{Dropped}
+use Rattle.tau_shard.specs.Shard.{Dropped}
 use Rattle.tau_shard.specs.Plain.{PlainShard}
 use Rattle.tau_shard.specs.Read.{shard_of}
 use Rattle.tau_ack.specs.Pending.{PlainPending, NoneCovered, TakesFirst}

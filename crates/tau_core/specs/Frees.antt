@@ -11,7 +11,7 @@ use Rattle.tau_proc.specs.declared.reply.Reply.{Reply}
 use Rattle.tau_model.specs.History.{Act}
 use Rattle.tau_model.specs.declared.committed.Committed.{Committed}
 use Rattle.tau_machine.specs.Hands.{Txn, Hand, Placed, Freeing, mode_of, lv_of, committed_of}
-use Rattle.tau_machine.specs.Shard.{shard_freed}
+use Rattle.tau_shard.specs.Shard.{shard_freed}
 use Rattle.tau_machine.specs.Worker.{hand_joined, hand_freed}
 use Rattle.tau_shard.specs.Plain.{PlainShard}
 use Rattle.tau_shard.specs.Read.{shard_of}

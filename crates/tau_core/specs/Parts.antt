@@ -8,7 +8,7 @@ use Rattle.tau_proc.specs.Takes.{takes}
 use Rattle.tau_model.specs.History.{Act}
 use Rattle.tau_machine.specs.Hands.{Txn}
 use Rattle.tau_machine.specs.Invariant.{Invariant}
-use Rattle.tau_machine.specs.Shard as machine
+use Rattle.tau_shard.specs.Shard as machine
 use Rattle.tau_machine.specs.Worker.{Worker}
 use Rattle.tau_machine.specs.State.{Core}
 use Rattle.tau_shard.specs.Plain.{PlainShard}

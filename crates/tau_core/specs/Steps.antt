@@ -9,7 +9,7 @@ use Rattle.tau_model.specs.History.{Act}
 use Rattle.std.specs.Ordering.{is_le}
 use Rattle.tau_base.specs.Database.{key_cmp}
 use Rattle.tau_machine.specs.Hands.{Txn, Hand, mode_of}
-use Rattle.tau_machine.specs.Shard.{at, entry_in}
+use Rattle.tau_shard.specs.Shard.{at, entry_in}
 use Rattle.tau_machine.specs.State.{hand_of}
 use Rattle.tau_machine.specs.Events as machine
 use Rattle.tau_machine.specs.Events.{Leads, ready, lock_next}

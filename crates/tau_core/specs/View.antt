@@ -7,7 +7,7 @@ use Rattle.tau_base.specs.Shards.{shard_number}
 use Rattle.tau_model.specs.Tables.{db_of_rows}
 use Rattle.tau_model.specs.History.{Numbered}
 use Rattle.tau_model.specs.declared.committed.Committed.{Committed}
-use Rattle.tau_machine.specs.Shard as machine
+use Rattle.tau_shard.specs.Shard as machine
 use Rattle.tau_machine.specs.Worker.{Worker}
 use Rattle.tau_machine.specs.State.{Setting, Ticket, Item, Core}
 use Rattle.tau_shard.specs.Plain.{PlainShard}

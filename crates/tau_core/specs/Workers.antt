@@ -8,7 +8,7 @@ use Rattle.tau_base.specs.Database.{key_cmp}
 use Rattle.tau_base.specs.Shards.{shard_number}
 use Rattle.tau_model.specs.declared.committed.Committed.{Committed}
 use Rattle.tau_machine.specs.Hands.{Hand, Running, Quitting, mode_of}
-use Rattle.tau_machine.specs.Shard.{entry_in, shard_locked, shard_quit}
+use Rattle.tau_shard.specs.Shard.{entry_in, shard_locked, shard_quit}
 use Rattle.tau_machine.specs.Stage.{stage}
 use Rattle.tau_machine.specs.Worker.{lock_of, hand_locked, settled, hand_busy, hand_quit}
 use Rattle.tau_shard.specs.Plain.{PlainShard}

@@ -11,11 +11,11 @@ use Rattle.tau_stream.specs.declared.writer.Writer.{Writer}
 use Rattle.tau_stream.specs.Writer.{has_failed}
 use Rattle.tau_model.specs.History.{Act, Member}
 use Rattle.tau_machine.specs.Hands.{Txn}
-use Rattle.tau_machine.specs.Shard.{at}
+use Rattle.tau_shard.specs.Shard.{at}
 use Rattle.tau_machine.specs.State.{Setting, Stream, Core}
 use Rattle.tau_machine.specs.Events.{Event, Persist, Stop, Stops, with_stream}
 use Rattle.tau_machine.specs.Runs.{Run}
-use Rattle.tau_machine.proofs.At.{at_same, at_other}
+use Rattle.tau_shard.proofs.At.{at_same, at_other}
 use Rattle.tau_machine.proofs.Snoc.{member_snoc}
 use Rattle.tau_machine.proofs.Results.{run_theorem, goes_on_theorem}
 use Rattle.tau_occ.specs.declared.style.Style.{Style}

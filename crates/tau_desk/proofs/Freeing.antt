@@ -16,7 +16,7 @@ use Rattle.tau_machine.specs.Hands.{Txn, Hand, Phase, Running, Freeing, mode_of,
 use Rattle.tau_machine.specs.Good.{InPhase}
 use Rattle.tau_machine.specs.State.{sight}
 use Rattle.std.proofs.lemmas.Bool.{cases_Bool}
-use Rattle.tau_machine.specs.Shard.{Shard, entry_in, shard_freed}
+use Rattle.tau_shard.specs.Shard.{Shard, entry_in, shard_freed}
 use Rattle.tau_machine.specs.Worker.{Worker, begun, begun_by, fresh, hand_freed, hand_joined}
 use Rattle.tau_machine.specs.Events.{Free}
 use Rattle.tau_txn.specs.Next as txn

@@ -8,7 +8,7 @@ use Rattle.tau_base.specs.declared.value.Mode.{Mode}
 use Rattle.tau_base.specs.Shards.{shard_number}
 use Rattle.tau_proc.specs.declared.proc.Proc.{Proc}
 use Rattle.tau_machine.specs.Hands.{Hand}
-use Rattle.tau_machine.specs.Shard.{Shard, Entry, entry_in, entry_or, shard_locked}
+use Rattle.tau_shard.specs.Shard.{Shard, Entry, entry_in, entry_or, shard_locked}
 use Rattle.tau_machine.specs.Shapes.{ShardShape}
 use Rattle.tau_machine.specs.State.{Setting}
 use Rattle.tau_machine.specs.Worker.{Worker, begun, settled, hand_busy, hand_locked}
@@ -38,7 +38,8 @@ use Rattle.tau_txn.specs.declared.action.ActionKind.TheVariants as kind
 use Rattle.tau_txn.specs.Narrow.{lock_at}
 use Rattle.tau_txn.specs.Next.{kind_of}
 use Rattle.tau_core.proofs.Hands.{shown_dep, locked_alike, locked_wide}
-use Rattle.tau_shard.proofs.Bridge.{against_to, no_conflict}
+use Rattle.tau_machine.proofs.Conflicts.{no_conflict}
+use Rattle.tau_shard.proofs.Bridge.{against_to}
 
 -- the holder that stands against a lock is a conflict
 a_conflict : (set : Setting) (sh : Shard) (w : ℕ) (x : Key) (m : Mode) (u : ℕ) → blocks (entry_in sh x) w m u ≡ true → Conflicts set sh w x m

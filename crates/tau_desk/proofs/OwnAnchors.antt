@@ -6,11 +6,11 @@ use Rattle.std.proofs.lemmas.Bool.{cases_eq}
 use Rattle.tau_base.specs.declared.limits.TheConstants.{MAX_LSN}
 use Rattle.tau_model.specs.History.{Member}
 use Rattle.tau_model.proofs.Orders.{member_front}
-use Rattle.tau_machine.specs.Shard.{at}
+use Rattle.tau_shard.specs.Shard.{at}
 use Rattle.tau_machine.specs.Pieces.{Chain}
 use Rattle.tau_machine.specs.State.{Item, Stream, past_of, start_of}
 use Rattle.tau_machine.specs.Events.{Gather, Leads}
-use Rattle.tau_machine.proofs.At.{at_same, at_other}
+use Rattle.tau_shard.proofs.At.{at_same, at_other}
 use Rattle.tau_machine.proofs.Pieces.{chain_member}
 use Rattle.tau_outbox.specs.declared.Piece.{Piece}
 use Rattle.tau_outbox.specs.Gather.{Continues, Gathers}

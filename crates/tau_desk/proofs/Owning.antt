@@ -7,7 +7,7 @@ use Rattle.tau_base.specs.Vectors.{AtMost}
 use Rattle.tau_machine.specs.Accounts.{joined_list}
 use Rattle.tau_machine.specs.Hands.{Hand, Holds, act_in, held_in, lv_of}
 use Rattle.tau_machine.specs.State.{hand_of}
-use Rattle.tau_machine.specs.Shard.{Shard, entry_in}
+use Rattle.tau_shard.specs.Shard.{Shard, entry_in}
 use Rattle.tau_machine.specs.Worker.{Worker}
 use Rattle.tau_machine.proofs.Results.{committed_theorem, ended_theorem, own_row_theorem, posted_theorem}
 use Rattle.tau_core.specs.State.{Plain}

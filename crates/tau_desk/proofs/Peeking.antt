@@ -8,7 +8,7 @@ use Rattle.tau_base.specs.declared.value.Mode.{Mode}
 use Rattle.tau_base.specs.declared.value.Mode.TheVariants.{Read}
 use Rattle.tau_machine.specs.Events.{Busy}
 use Rattle.tau_machine.specs.Hands.{Hand}
-use Rattle.tau_machine.specs.Shard.{Shard}
+use Rattle.tau_shard.specs.Shard.{Shard}
 use Rattle.tau_machine.specs.Worker.{Worker, begun, hand_busy, settled}
 use Rattle.tau_occ.specs.declared.style.Style.{Style}
 use Rattle.tau_occ.specs.declared.style.Style.TheVariants.{Optimistic}

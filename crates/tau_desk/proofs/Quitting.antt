@@ -6,7 +6,7 @@ use Rattle.tau_base.specs.declared.value.Mode.{Mode}
 use Rattle.tau_base.specs.Shards.{shard_number}
 use Rattle.tau_model.specs.History.{Numbered}
 use Rattle.tau_machine.specs.Hands.{Hand, Running, Quitting, mode_of}
-use Rattle.tau_machine.specs.Shard.{Shard, shard_quit}
+use Rattle.tau_shard.specs.Shard.{Shard, shard_quit}
 use Rattle.tau_machine.specs.Worker.{Worker, begun, begun_by, fresh, hand_quit, settled}
 use Rattle.tau_machine.specs.Events.{Quit, with_shard, with_worker}
 use Rattle.tau_txn.specs.Next as txn

@@ -3,8 +3,8 @@ use Rattle.std.proofs.Common.{◌≡◌, ℕ, ◌≤◌, ◌<◌, ◌+◌, List,
 use Rattle.std.specs.Prelude.{Some}
 use Rattle.tau_shown.proofs.Steps.{gives_part}
 use Rattle.tau_model.specs.declared.committed.Committed.{Committed}
-use Rattle.tau_machine.specs.Shard.{at, Shard, shard_freed}
-use Rattle.tau_machine.proofs.At.{at_same, at_other}
+use Rattle.tau_shard.specs.Shard.{at, Shard, shard_freed}
+use Rattle.tau_shard.proofs.At.{at_same, at_other}
 use Rattle.tau_machine.specs.Worker.{Worker, begun, hand_freed, hand_joined}
 use Rattle.std.specs.Map.{lookup}
 use Rattle.tau_base.specs.Database.{same_key}

@@ -3,9 +3,9 @@ use Rattle.std.proofs.Common.{◌≡◌, ℕ, ◌+◌, ◌<◌, List, [], ◌++�
 use Rattle.std.specs.Prelude.{Some}
 use Rattle.tau_base.specs.Vectors.{AtMost}
 use Rattle.tau_base.specs.declared.limits.TheConstants.{SHARDS}
-use Rattle.tau_machine.specs.Shard.{Dropped, Shard}
+use Rattle.tau_shard.specs.Shard.{Dropped, Shard}
 use Rattle.tau_machine.specs.Events.{Drop, Leads, with_shard}
-use Rattle.tau_machine.proofs.At.{at_same, at_other}
+use Rattle.tau_shard.proofs.At.{at_same, at_other}
 use Rattle.tau_shard.specs.Plain.{PlainShard}
 use Rattle.tau_shard.specs.Read.{shard_of}
 use Rattle.tau_core.specs.State.{Plain}

@@ -9,7 +9,7 @@ use Rattle.tau_machine.specs.Hands.{Hand, committed_of}
 use Rattle.tau_machine.specs.State.{Core, Outbox, ticket}
 use Rattle.tau_machine.specs.Worker.{Worker, begun, hand_freed, hand_joined}
 use Rattle.tau_machine.specs.Events.{DoneReading, with_outbox, with_worker}
-use Rattle.tau_machine.proofs.At.{at_same}
+use Rattle.tau_shard.proofs.At.{at_same}
 use Rattle.tau_machine.proofs.Commits.{begun_committed}
 use Rattle.tau_machine.proofs.States.{again}
 use Rattle.tau_txn.specs.declared.action.Action.TheVariants as action

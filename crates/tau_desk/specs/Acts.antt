@@ -12,7 +12,7 @@ use Rattle.tau_model.specs.declared.committed.Committed.{Committed}
 use Rattle.tau_model.specs.History.{Act}
 use Rattle.tau_machine.specs.Hands.{Freeing, Hand, Placed, Txn, committed_of}
 use Rattle.tau_machine.specs.Events.{Conflicts}
-use Rattle.tau_machine.specs.Shard.{Shard}
+use Rattle.tau_shard.specs.Shard.{Shard}
 use Rattle.tau_machine.specs.Worker.{Worker, hand_busy, hand_freed, hand_joined, hand_quit, settled}
 use Rattle.tau_base.specs.Modes.{format_of}
 use Rattle.tau_record.specs.Record.{base_of, Spells}

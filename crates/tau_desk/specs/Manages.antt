@@ -2,7 +2,7 @@
 use Rattle.std.specs.Prelude.{ℕ, false, slice_index, ◌*◌, ◌+◌, ◌-◌, ◌≤◌, ◌<◌, ◌≡◌, ◌==◌, ◌||◌, true, Option, Some, None, List, [], ◌∷◌, ◌++◌, length, slice_index_or, slice_set, take}
 use Rattle.tau_base.specs.Vectors.{AtMost}
 use Rattle.tau_base.specs.declared.limits.TheConstants.{MAX_LSN}
-use Rattle.tau_machine.specs.Shard.{Shard, Dropped}
+use Rattle.tau_shard.specs.Shard.{Shard, Dropped}
 use Rattle.tau_machine.specs.State.{Ticket}
 use Rattle.tau_outbox.specs.declared.Piece.{Piece}
 use Rattle.tau_outbox.specs.Gather.{Continues, Gathers}

@@ -10,7 +10,7 @@ use Rattle.tau_model.specs.declared.committed.Committed.{Committed}
 use Rattle.tau_model.specs.History.{Act, Member, Reordered, updates}
 use Rattle.tau_machine.specs.Hands.{Hand, Holds, Txn, act_in, committed_of, lv_of, mode_of}
 use Rattle.tau_machine.specs.Pieces.{placed_in}
-use Rattle.tau_machine.specs.Shard.{Shard, entry_in}
+use Rattle.tau_shard.specs.Shard.{Shard, entry_in}
 use Rattle.tau_machine.specs.State.{Record, hand_of, ticket_of}
 use Rattle.tau_machine.specs.Worker.{Worker}
 use Rattle.tau_machine.specs.Accounts.{joined_list}

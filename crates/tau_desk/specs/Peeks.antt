@@ -8,7 +8,7 @@ use Rattle.tau_base.specs.declared.value.Mode.{Mode}
 use Rattle.tau_base.specs.declared.value.Mode.TheVariants.{Read}
 use Rattle.tau_base.specs.declared.value.Value.{Value}
 use Rattle.tau_machine.specs.Events.{Conflicts}
-use Rattle.tau_machine.specs.Shard.{Shard}
+use Rattle.tau_shard.specs.Shard.{Shard}
 use Rattle.tau_txn.specs.Txn.{PlainTxn}
 use Rattle.tau_core.specs.State.{Plain}
 use Rattle.tau_core.specs.View.{setting_of}

@@ -1,6 +1,6 @@
 -- What a manager does with a part that it takes and gives back, of which its seat knows nothing afterwards.
 use Rattle.std.specs.Prelude.{ℕ, ◌+◌, ◌≤◌, ◌≡◌, Some, List, length, slice_index}
-use Rattle.tau_machine.specs.Shard.{Dropped, Shard}
+use Rattle.tau_shard.specs.Shard.{Dropped, Shard}
 use Rattle.tau_core.specs.Pieces.{Names}
 use Rattle.tau_core.specs.State.{Plain}
 use Rattle.tau_rule.specs.Rule.{anchor_part}

@@ -1,7 +1,7 @@
 -- What a worker's steps owe and tell, besides a Lock, a Busy, a Quit, a Free, a Post and a Done, which owe `GivesShard` and `GivesOutbox`.
 use Rattle.std.specs.Prelude.{ℕ, ◌+◌, ◌≤◌, ◌<◌, ◌≡◌, Bool, true, false, Option, Some, None, Result, Ok, Err, length, List, [], ◌∷◌, ◌++◌}
 use Rattle.tau_model.specs.declared.committed.Committed.{Committed}
-use Rattle.tau_machine.specs.Shard.{Shard}
+use Rattle.tau_shard.specs.Shard.{Shard}
 use Rattle.tau_machine.specs.Worker.{Worker}
 use Rattle.tau_machine.specs.Events.{FirstFree, DoneReading}
 use Rattle.tau_shard.specs.Plain.{PlainShard}

@@ -17,14 +17,14 @@ use Rattle.tau_machine.specs.Stage.{Stage, Ends, stage}
 use Rattle.tau_model.specs.declared.committed.Committed.{Committed}
 use Rattle.tau_machine.specs.Hands.{Txn, unplaced_at, committed_of, Phase, Running, Placed, Freeing, Hand, mode_of, held_in, act_in, act_of}
 use Rattle.tau_machine.specs.Good.{Runs, Joined, InPhase}
-use Rattle.tau_machine.specs.Shard.{at}
+use Rattle.tau_shard.specs.Shard.{at}
 use Rattle.tau_machine.specs.Worker.{Worker, begun_by, begun, unlocked, write_want, lock_of, hand_joined}
 use Rattle.tau_machine.specs.State.{Setting, Core, sight, hand_of}
 use Rattle.tau_machine.specs.Invariant.{CoreGood}
 use Rattle.tau_machine.specs.Events.{with_worker, lock_next, act_placed, act_reading}
 use Rattle.tau_base.proofs.Vectors.{at_most_trans, at_most_itself, join_left, join_wide, join_below}
 use Rattle.tau_machine.proofs.Snoc.{member_snoc}
-use Rattle.tau_machine.proofs.At.{at_same, at_other}
+use Rattle.tau_shard.proofs.At.{at_same, at_other}
 use Rattle.tau_machine.proofs.Own.{own, alone_before, alone_less}
 use Rattle.tau_machine.proofs.Locks.{join_cause}
 use Rattle.tau_machine.proofs.Join.{Joins, join_good, in_hand}

@@ -14,7 +14,7 @@ use Rattle.tau_base.proofs.Vectors.{at_most_trans, join_left, join_right}
 use Rattle.tau_model.specs.History.{Numbered, Act, Member, updates, updating}
 use Rattle.tau_machine.specs.Stage.{Stage}
 use Rattle.tau_machine.specs.Hands.{Txn, Hand, Placed, Freeing, act_of, mode_of, lv_of}
-use Rattle.tau_machine.specs.Shard.{at, Entry, Shard, entry_or, entry_in, put_entry, held_as, shard_locked, shard_quit, shard_freed, Dropped}
+use Rattle.tau_shard.specs.Shard.{at, Entry, Shard, entry_or, entry_in, put_entry, held_as, shard_locked, shard_quit, shard_freed, Dropped}
 use Rattle.tau_machine.specs.Worker.{Worker, fresh, begun_by, begun, held_writing, unlocked, write_want, lock_of, hand_locked, settled_by, settled, hand_busy, hand_quit, hand_joined, hand_freed}
 use Rattle.tau_machine.specs.State.{Setting, Core}
 use Rattle.tau_machine.specs.Events.{Event, Lock, Busy, Quit, Commit, Post, Free, FirstFree, Done, DoneReading, Drop, Gather, PlaceAnchor, Persist, Ack, Stop, Resume, Leads, ready, Locks, Refuses, Quits, Commits, Posts, Reads, Frees, Finishes, Gathered, stop, record_first, anchor_first}

@@ -18,7 +18,8 @@ use Rattle.tau_machine.specs.Hands.{Txn, lv_of, Phase, Running, Quitting, Placed
 use Rattle.tau_machine.specs.Sight.{Sight}
 use Rattle.tau_machine.specs.Good.{Reaches, Runs, Joined, InPhase, Order, KeyGood, Good}
 use Rattle.tau_base.proofs.Vectors.{at_most_trans, join_left, join_right, join_below}
-use Rattle.tau_machine.proofs.Modes.{cases_key, without_same, without_other}
+use Rattle.tau_shard.proofs.At.{cases_key}
+use Rattle.tau_machine.proofs.Modes.{without_same, without_other}
 use Rattle.tau_machine.proofs.Own.{holds_moved, key_moved, apart_moved, alone_before, alone_less}
 use Rattle.tau_machine.proofs.Locks.{join_cause}
 use Rattle.tau_machine.proofs.Join.{agrees_like, in_hand}

@@ -14,14 +14,14 @@ use Rattle.tau_base.specs.Vectors.{AtMost, join}
 use Rattle.tau_base.proofs.Keys.{same_key_itself}
 use Rattle.tau_machine.specs.Hands.{Txn, lv_of, Freeing, Hand, mode_of, held_in, act_of}
 use Rattle.tau_machine.specs.Good.{Good}
-use Rattle.tau_machine.specs.Shard.{at, Entry, Shard, entry_or, entry_in, held_as, shard_freed, Dropped}
+use Rattle.tau_shard.specs.Shard.{at, Entry, Shard, entry_or, entry_in, held_as, shard_freed, Dropped}
 use Rattle.tau_machine.specs.Worker.{Worker, hand_freed}
 use Rattle.tau_machine.specs.State.{Setting, Core, shard_at, sight, hand_of}
 use Rattle.tau_machine.specs.Invariant.{CoreGood}
 use Rattle.tau_machine.specs.Events.{with_worker, with_shard}
 use Rattle.tau_base.proofs.Vectors.{at_most_trans, at_most_itself}
 use Rattle.tau_machine.proofs.Stages.{has_lookup}
-use Rattle.tau_machine.proofs.At.{at_same, at_other, shown_kept, shown_new, entry_same, entry_other}
+use Rattle.tau_shard.proofs.At.{at_same, at_other, shown_kept, shown_new, entry_same, entry_other}
 use Rattle.tau_machine.proofs.Modes.{without_same, without_other}
 use Rattle.tau_machine.proofs.Free.{Frees, free_good}
 use Rattle.tau_machine.proofs.Marks.{Raises, raise_good}

@@ -11,7 +11,7 @@ use Rattle.tau_base.specs.Vectors.{AtMost}
 use Rattle.tau_model.specs.declared.committed.Committed.{Committed}
 use Rattle.tau_base.specs.declared.limits.TheConstants.{MAX_TRIES}
 use Rattle.tau_machine.specs.Hands.{Txn, committed_of, Phase, Running, Quitting, Placed, Freeing, Hand, act_in, act_of}
-use Rattle.tau_machine.specs.Shard.{at, Shard, entry_in}
+use Rattle.tau_shard.specs.Shard.{at, Shard, entry_in}
 use Rattle.tau_machine.specs.Worker.{Worker, begun_by, begun, settled_by, settled, hand_busy, hand_quit, hand_joined, hand_locked, hand_freed}
 use Rattle.tau_machine.specs.State.{Setting, Ticket, Record, Outbox, Stream, Core, ticket, hand_of}
 use Rattle.tau_machine.specs.Invariant.{CoreGood, Agreement, Stops}
@@ -20,7 +20,7 @@ use Rattle.tau_machine.specs.Accounts.{Account, Accounts, in_hand, in_phase}
 use Rattle.tau_machine.specs.Events as event
 use Rattle.tau_machine.specs.Events.{with_worker, with_shard, with_outbox, with_stream, ready, act_placed, act_reading, Event, Lock, Busy, Quit, Commit, Post, Free, FirstFree, Done, DoneReading, Drop, Gather, PlaceAnchor, Persist, Ack, Stop, Resume, Leads}
 use Rattle.tau_base.proofs.Vectors.{join_right}
-use Rattle.tau_machine.proofs.At.{at_same, at_other}
+use Rattle.tau_shard.proofs.At.{at_same, at_other}
 use Rattle.tau_machine.proofs.States.{hands_at, hand_at, again, outbox_moved}
 use Rattle.tau_machine.proofs.Turns.{begun_good, locks_good, refuses_good, quits_good, let_go_good}
 use Rattle.tau_machine.proofs.Commits.{begun_committed, commit_good, reading_good, post_good, finish_good}

@@ -1,7 +1,6 @@
 pub mod Stages
 pub mod Machine
 pub mod Modes
-pub mod At
 pub mod Snoc
 pub mod Own
 pub mod Locks
@@ -28,3 +27,4 @@ pub mod OnePut
 pub mod Shapes
 pub mod Classes
 pub mod Floors
+pub mod Conflicts

@@ -19,7 +19,8 @@ use Rattle.tau_machine.specs.Sight.{Sight}
 use Rattle.tau_machine.specs.Good.{HandCause, Runs, Used, InPhase, Good, Meets}
 use Rattle.tau_base.proofs.Vectors.{join_at, join_wide, join_left, join_right, join_below, at_most_trans}
 use Rattle.tau_machine.proofs.Stages.{wanted_read, reads_grow}
-use Rattle.tau_machine.proofs.Modes.{cases_key, hold_same, hold_other}
+use Rattle.tau_shard.proofs.At.{cases_key}
+use Rattle.tau_machine.proofs.Modes.{hold_same, hold_other}
 use Rattle.tau_machine.proofs.Own.{alone_before, uncommitted}
 use Rattle.tau_base.proofs.Logic.{or_true, or_left, zeros}
 

@@ -7,7 +7,7 @@ use Rattle.tau_model.specs.History.{Act, Member}
 use Rattle.tau_base.specs.Vectors.{AtMost}
 use Rattle.tau_model.proofs.Orders.{member_put, member_back}
 use Rattle.tau_machine.specs.Hands.{Txn}
-use Rattle.tau_machine.specs.Shard.{at}
+use Rattle.tau_shard.specs.Shard.{at}
 use Rattle.tau_machine.specs.Worker.{Worker}
 use Rattle.tau_machine.specs.State.{Setting, Ticket, Item, Record, Anchor, start_of, past_of, Outbox, Stream, Core, hand_of}
 use Rattle.tau_machine.specs.Invariant.{CoreGood, Agreement, Stops}
@@ -16,7 +16,7 @@ use Rattle.tau_machine.specs.Accounts.{Account, Accounts}
 use Rattle.tau_machine.specs.Events as event
 use Rattle.tau_machine.specs.Events.{with_outbox, Event, Lock, Busy, Quit, Commit, Post, Free, FirstFree, Done, DoneReading, Drop, Gather, PlaceAnchor, Persist, Ack, Stop, Resume, Leads}
 use Rattle.tau_base.proofs.Vectors.{at_most_trans, at_most_itself}
-use Rattle.tau_machine.proofs.At.{at_same, at_other}
+use Rattle.tau_shard.proofs.At.{at_same, at_other}
 use Rattle.tau_machine.proofs.Commits.{set_up, set_below}
 use Rattle.tau_machine.proofs.Frees.{dropped_good}
 use Rattle.tau_machine.proofs.Rest.{positions_good, stream_good, anchors_kept, acked_good, resumed_good}

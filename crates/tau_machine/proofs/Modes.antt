@@ -1,5 +1,5 @@
 -- Held keys.
-use Rattle.std.proofs.Common.{true, false, ◌≡◌, ◌⊎◌, inl, inr, List, [], ◌∷◌, refl, ap, subst, ◌∙◌}
+use Rattle.std.proofs.Common.{true, false, ◌≡◌, inl, inr, List, [], ◌∷◌, refl, ap, subst, ◌∙◌}
 use Rattle.std.specs.FinMap.Entries.{by_order}
 use Rattle.std.specs.Prelude.{Some, None}
 use Rattle.std.proofs.lemmas.Bool.{cases_Bool}
@@ -11,10 +11,6 @@ use Rattle.std.specs.declared.cmp.Ordering.TheVariants.{Less, Equal, Greater}
 use Rattle.tau_base.specs.Database.{same_key, key_cmp}
 use Rattle.tau_base.proofs.Keys.{same_key_itself, same_key_is}
 use Rattle.tau_machine.specs.Hands.{mode_of, without, hold}
-
--- a key is another one or not
-pub cases_key : (y x : Key) → (y ≡ x) ⊎ (same_key y x ≡ false)
-cases_key y x = elim (cases_Bool (same_key y x)) [ inl e ↦ inl (same_key_is y x e) | inr e ↦ inr e ]
 
 pub without_same : (x : Key) (held : List (Key × Mode)) → mode_of x (without x held) ≡ None
 without_same x [] = refl

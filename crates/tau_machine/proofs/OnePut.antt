@@ -18,7 +18,7 @@ use Rattle.tau_base.specs.Shards.{shard_number}
 use Rattle.tau_proc.specs.declared.procs.TheConstants.{PUT}
 use Rattle.tau_machine.specs.Stage.{Ends, stage}
 use Rattle.tau_machine.specs.Hands.{Txn, Placed, Freeing, Hand, mode_of, lv_of, committed_of}
-use Rattle.tau_machine.specs.Shard.{at, shard_locked, shard_freed}
+use Rattle.tau_shard.specs.Shard.{at, shard_locked, shard_freed}
 use Rattle.tau_machine.specs.Worker.{lock_of, fresh, hand_locked, hand_joined, hand_freed}
 use Rattle.tau_machine.specs.State.{Setting, Record, Core, ticket}
 use Rattle.tau_machine.specs.Accounts.{in_worker}

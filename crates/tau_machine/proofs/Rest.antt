@@ -6,14 +6,14 @@ use Rattle.tau_model.specs.History.{Numbered, Act, Member}
 use Rattle.tau_base.specs.Vectors.{AtMost}
 use Rattle.tau_machine.specs.Hands.{Txn, Hand}
 use Rattle.tau_machine.specs.Good.{Good}
-use Rattle.tau_machine.specs.Shard.{at}
+use Rattle.tau_shard.specs.Shard.{at}
 use Rattle.tau_machine.specs.Worker.{Worker}
 use Rattle.tau_machine.specs.State.{Setting, Ticket, Stream, Core, ticket, sight, hand_of}
 use Rattle.tau_machine.specs.Invariant.{CoreGood}
 use Rattle.tau_machine.specs.Events.{with_worker, with_outbox, with_stream}
 use Rattle.tau_base.proofs.Vectors.{at_most_trans}
 use Rattle.tau_machine.proofs.Snoc.{member_snoc}
-use Rattle.tau_machine.proofs.At.{at_same, at_other}
+use Rattle.tau_shard.proofs.At.{at_same, at_other}
 use Rattle.tau_machine.proofs.Marks.{grow_good}
 use Rattle.tau_machine.proofs.States.{worker_moved, outbox_moved, hand_at}
 

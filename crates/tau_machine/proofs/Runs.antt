@@ -8,7 +8,7 @@ use Rattle.tau_model.specs.History.{Act, Member}
 use Rattle.tau_base.specs.Vectors.{AtMost}
 use Rattle.tau_machine.specs.Hands.{Txn, Hand, held_in, act_in}
 use Rattle.tau_machine.specs.Good.{Good}
-use Rattle.tau_machine.specs.Shard.{Entry, entry_or, entry_in}
+use Rattle.tau_shard.specs.Shard.{Entry, entry_or, entry_in}
 use Rattle.tau_machine.specs.State.{Setting, Ticket, Item, Core, shard_at, sight, hand_of}
 use Rattle.tau_machine.specs.Pieces.{NameTheirs, Chain, Ascending, placed_in, anchors_in, records_in}
 use Rattle.tau_machine.specs.Accounts.{joined_list}

@@ -16,7 +16,7 @@ use Rattle.tau_model.specs.History.{Numbered, Act, Member, updates}
 use Rattle.tau_model.specs.Logged.{Place, lv}
 use Rattle.tau_model.proofs.Orders.{member_back, member_put}
 use Rattle.tau_machine.specs.Hands.{Txn, lv_of, committed_of, Phase, Placed, Freeing, Hand}
-use Rattle.tau_machine.specs.Shard.{at, Entry, Shard, entry_or, entry_in, put_entry, held_as, shard_locked, shard_quit, shard_freed, Dropped}
+use Rattle.tau_shard.specs.Shard.{at, Entry, Shard, entry_or, entry_in, put_entry, held_as, shard_locked, shard_quit, shard_freed, Dropped}
 use Rattle.tau_machine.specs.Worker.{Worker, fresh, begun_by, begun, settled_by, settled, hand_locked, hand_busy, hand_quit, hand_freed}
 use Rattle.tau_machine.specs.State.{Setting, Core, Stream, Anchor, sight}
 use Rattle.tau_machine.specs.Good.{InPhase}
@@ -24,7 +24,7 @@ use Rattle.tau_machine.specs.Invariant.{Agreement, Invariant}
 use Rattle.tau_machine.specs.Shapes.{IsCall, IsWhole, WorkerShape, ShardShape, Shapes}
 use Rattle.tau_machine.specs.Events as event
 use Rattle.tau_machine.specs.Events.{ready, Event, Lock, Busy, Quit, Commit, Post, Free, FirstFree, Done, DoneReading, Drop, Gather, PlaceAnchor, Persist, Ack, Stop, Resume, Leads}
-use Rattle.tau_machine.proofs.At.{at_same, at_other}
+use Rattle.tau_shard.proofs.At.{at_same, at_other}
 use Rattle.tau_machine.proofs.Snoc.{member_snoc}
 use Rattle.tau_machine.proofs.Leads.{reads_kept, let_go_kept}
 use Rattle.tau_machine.proofs.Managed.{leads_kept}

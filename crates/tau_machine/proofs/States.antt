@@ -12,13 +12,12 @@ use Rattle.tau_base.specs.Vectors.{AtMost}
 use Rattle.tau_machine.specs.Hands.{Txn, committed_of, Hand, held_in}
 use Rattle.tau_machine.specs.Sight.{Sight}
 use Rattle.tau_machine.specs.Good.{Good}
-use Rattle.tau_machine.specs.Shard.{at, Shard, entry_in}
+use Rattle.tau_shard.specs.Shard.{at, Shard, entry_in}
 use Rattle.tau_machine.specs.Worker.{Worker}
 use Rattle.tau_machine.specs.State.{Setting, Ticket, Outbox, Core, ticket, shard_at, sight, hand_of}
 use Rattle.tau_machine.specs.Invariant.{CoreGood}
 use Rattle.tau_machine.specs.Events.{with_worker, with_shard, with_outbox}
-use Rattle.tau_machine.proofs.At.{at_same, at_other, at_at, shown_kept, shown_new}
-use Rattle.tau_machine.proofs.Modes.{cases_key}
+use Rattle.tau_shard.proofs.At.{at_same, at_other, at_at, shown_kept, shown_new, cases_key}
 
 -- the same hands, but for one worker's
 pub hands_at : (workers : ℕ → Worker) (w : ℕ) (wk : Worker) (u : ℕ) → (u ≡ w → ⊥) → (at w wk workers u).hand ≡ (workers u).hand

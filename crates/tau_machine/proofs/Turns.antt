@@ -14,13 +14,13 @@ use Rattle.tau_machine.specs.Stage.{Stage, Wants, Ends, stage}
 use Rattle.tau_machine.specs.Hands.{Txn, Phase, Running, Quitting, Hand, mode_of, hold, without, held_in, act_in, act_of}
 use Rattle.tau_machine.specs.Good.{InPhase, Good}
 use Rattle.tau_base.specs.declared.limits.TheConstants.{MAX_TRIES}
-use Rattle.tau_machine.specs.Shard.{at, Entry, entry_in, held_as, shard_locked, shard_quit}
+use Rattle.tau_shard.specs.Shard.{at, Entry, entry_in, held_as, shard_locked, shard_quit}
 use Rattle.tau_machine.specs.Worker.{Worker, fresh, begun_by, held_writing, unlocked, write_want, lock_of, hand_locked, settled_by, settled, hand_busy, hand_quit}
 use Rattle.tau_machine.specs.State.{Setting, Core, shard_at, sight, hand_of}
 use Rattle.tau_machine.specs.Invariant.{CoreGood}
 use Rattle.tau_machine.specs.Events.{with_worker, with_shard, ready, lock_next, Conflicts, Locks, Refuses, Quits}
-use Rattle.tau_machine.proofs.At.{at_same, at_itself, entry_same, entry_other}
-use Rattle.tau_machine.proofs.Modes.{cases_key, hold_same, hold_other, without_same, without_other}
+use Rattle.tau_shard.proofs.At.{at_same, at_itself, entry_same, entry_other, cases_key}
+use Rattle.tau_machine.proofs.Modes.{hold_same, hold_other, without_same, without_other}
 use Rattle.tau_machine.proofs.Own.{uncommitted, Alone, alone_before, alone_less}
 use Rattle.tau_machine.proofs.Locks.{lock_read, lock_write, runs_begun}
 use Rattle.tau_machine.proofs.States.{hands_at, hand_at, again, Shows, Holders, worker_moved, lock_moved}

@@ -5,7 +5,7 @@ use Rattle.tau_base.specs.declared.value.Mode.{Mode}
 use Rattle.tau_base.specs.Vectors.{AtMost}
 use Rattle.tau_model.specs.History.{Act, Member, updates}
 use Rattle.tau_machine.specs.Hands.{Txn, Hand, act_of, mode_of}
-use Rattle.tau_machine.specs.Shard.{Entry}
+use Rattle.tau_shard.specs.Shard.{Entry}
 use Rattle.tau_machine.specs.State.{Setting, Core, shard_at}
 use Rattle.tau_machine.specs.Events.{Event, Leads}
 use Rattle.tau_machine.specs.Runs.{IsOpening}

@@ -12,7 +12,7 @@ use Rattle.tau_proc.specs.Effect.{Effect}
 use Rattle.tau_base.specs.Vectors.{AtMost, join}
 use Rattle.tau_machine.specs.Stage.{Ends, stage}
 use Rattle.tau_machine.specs.Hands.{Txn, lv_of, unplaced_at, committed_of, Running, Quitting, Placed, Freeing, act_of, Hand, mode_of}
-use Rattle.tau_machine.specs.Shard.{at, Shard, entry_in, shard_locked, shard_quit, shard_freed, Dropped}
+use Rattle.tau_shard.specs.Shard.{at, Shard, entry_in, shard_locked, shard_quit, shard_freed, Dropped}
 use Rattle.tau_machine.specs.Worker.{Worker, begun, lock_of, hand_locked, settled, hand_busy, hand_quit, hand_joined, hand_freed}
 use Rattle.tau_machine.specs.State.{Setting, Ticket, Item, Record, Anchor, Outbox, Stream, Core, ticket, start_of, past_of}
 

@@ -5,7 +5,7 @@ use Rattle.tau_base.specs.declared.value.Key.{Key}
 use Rattle.tau_base.specs.Vectors.{AtMost}
 use Rattle.tau_model.specs.History.{Act, Member, updates}
 use Rattle.tau_machine.specs.Hands.{Txn, committed_of, unplaced_at, held_in}
-use Rattle.tau_machine.specs.Shard.{entry_in}
+use Rattle.tau_shard.specs.Shard.{entry_in}
 use Rattle.tau_machine.specs.State.{Setting, Ticket, Core, ticket, hand_of, shard_at, sight}
 use Rattle.tau_machine.specs.Good.{Good}
 use Rattle.tau_machine.specs.Pieces.{Pieces}

@@ -8,7 +8,6 @@ pub mod Pieces
 pub mod Reports
 pub mod Runs
 pub mod Shapes
-pub mod Shard
 pub mod Sight
 pub mod Stage
 pub mod State

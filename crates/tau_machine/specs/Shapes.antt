@@ -3,7 +3,7 @@ use Rattle.std.specs.Prelude.{ℕ, ◌≤◌, ◌≡◌, Some, List, length}
 use Rattle.tau_base.specs.declared.value.Key.{Key}
 use Rattle.tau_model.specs.History.{Numbered, Act, Member}
 use Rattle.tau_machine.specs.Hands.{Txn, Hand}
-use Rattle.tau_machine.specs.Shard.{Entry, Shard}
+use Rattle.tau_shard.specs.Shard.{Entry, Shard}
 use Rattle.tau_machine.specs.Worker.{Worker}
 use Rattle.tau_machine.specs.State.{Setting, Core}
 

@@ -4,12 +4,12 @@ use Rattle.std.specs.Prelude.{Some, None}
 use Rattle.tau_shown.proofs.Steps.{gives_part}
 use Rattle.tau_model.specs.History.{Act, Member}
 use Rattle.tau_machine.specs.Hands.{Txn, Hand, Placed, Freeing}
-use Rattle.tau_machine.specs.Shard.{at}
+use Rattle.tau_shard.specs.Shard.{at}
 use Rattle.tau_machine.specs.Worker.{Worker}
 use Rattle.tau_machine.specs.Pieces.{placed_in, placed_of}
 use Rattle.tau_machine.specs.State.{Outbox, Item, Record, past_of}
 use Rattle.tau_machine.specs.Events.{Event, Post, Leads, with_worker, with_outbox}
-use Rattle.tau_machine.proofs.At.{at_same, at_other}
+use Rattle.tau_shard.proofs.At.{at_same, at_other}
 use Rattle.tau_outbox.specs.declared.Piece.{Piece}
 use Rattle.tau_txn.specs.Txn.{PlainTxn}
 use Rattle.tau_outbox.specs.Pieces as outbox

@@ -5,11 +5,11 @@ use Rattle.std.proofs.Math.Path.{fun_ext}
 use Rattle.std.proofs.lemmas.List.{append-nil, append_assoc}
 use Rattle.std.proofs.lemmas.Bool.{cases_eq}
 use Rattle.tau_model.specs.History.{Member}
-use Rattle.tau_machine.specs.Shard.{at}
+use Rattle.tau_shard.specs.Shard.{at}
 use Rattle.tau_machine.specs.Pieces.{Chain}
 use Rattle.tau_machine.specs.State.{Setting, Item, Outbox, Stream, Core, start_of, past_of}
 use Rattle.tau_machine.specs.Events.{Gather, Gathered, Leads, stop, record_first, GathersRecord, with_outbox, with_stream}
-use Rattle.tau_machine.proofs.At.{at_same, at_other, at_at, at_itself}
+use Rattle.tau_shard.proofs.At.{at_same, at_other, at_at, at_itself}
 use Rattle.tau_machine.proofs.Pieces.{chain_member}
 use Rattle.tau_outbox.specs.declared.Piece.{Piece}
 use Rattle.tau_outbox.specs.Pieces.{PlainOutbox, bytes_of}

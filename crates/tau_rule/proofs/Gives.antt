@@ -5,10 +5,10 @@ use mathlib.Core.Option.{none}
 use prog.Atomic.{either}
 use Rattle.atomic_table.specs.Table.{Step, step, Allows}
 use Rattle.tau_shown.proofs.Steps.{gives_part, takes_part}
-use Rattle.tau_machine.specs.Shard.{Shard}
+use Rattle.tau_shard.specs.Shard.{Shard}
 use Rattle.tau_machine.specs.Worker.{Worker}
 use Rattle.tau_machine.specs.Events.{Event}
-use Rattle.tau_machine.proofs.At.{at_same}
+use Rattle.tau_shard.proofs.At.{at_same}
 use Rattle.tau_txn.specs.Txn.{PlainTxn}
 use Rattle.tau_core.specs.State.{Plain}
 use Rattle.tau_occ.specs.declared.style.Style.{Style}

@@ -7,8 +7,8 @@ use mathlib.Core.Option.{none}
 use Rattle.atomic_table.specs.Table.{Step, step, Allows}
 use Rattle.tau_shown.proofs.Steps.{words_step, loads_word}
 use Rattle.tau_machine.specs.Events.{Event, Persist, Leads}
-use Rattle.tau_machine.specs.Shard.{at}
-use Rattle.tau_machine.proofs.At.{at_same, at_other}
+use Rattle.tau_shard.specs.Shard.{at}
+use Rattle.tau_shard.proofs.At.{at_same, at_other}
 use Rattle.tau_machine.proofs.Snoc.{member_last, member_snoc}
 use Rattle.tau_model.specs.History.{Member}
 use Rattle.tau_model.proofs.Orders.{member_front}

@@ -15,7 +15,7 @@ use Rattle.tau_machine.specs.Worker.{Worker, begun, begun_by, fresh, hand_joined
 use Rattle.tau_machine.specs.Shapes.{WorkerShape}
 use Rattle.tau_machine.specs.State.{Core, Setting}
 use Rattle.tau_machine.specs.Events.{Commit, Leads, with_worker}
-use Rattle.tau_machine.proofs.At.{at_same, at_other}
+use Rattle.tau_shard.proofs.At.{at_same, at_other}
 use Rattle.tau_machine.proofs.Commits.{begun_committed}
 use Rattle.tau_txn.specs.Read.{effect_in}
 use Rattle.tau_txn.specs.Next.{act_at}

@@ -7,7 +7,7 @@ use Rattle.tau_shown.proofs.Steps.{splits_role}
 use Rattle.tau_model.specs.History.{Numbered, Member}
 use Rattle.tau_machine.specs.Worker.{Worker}
 use Rattle.tau_machine.specs.Events.{Resume, Leads, with_worker}
-use Rattle.tau_machine.proofs.At.{at_same, at_other}
+use Rattle.tau_shard.proofs.At.{at_same, at_other}
 use Rattle.tau_core.specs.State.{Plain}
 use Rattle.tau_core.specs.View.{setting_of}
 use Rattle.tau_core.specs.Parts.{nobody}

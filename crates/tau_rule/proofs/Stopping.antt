@@ -4,8 +4,8 @@ use Rattle.std.specs.Prelude.{Some, ◌||◌, if◌then◌else◌, nat_le, slice
 use Rattle.std.proofs.lemmas.Bool.{cases_eq}
 use Rattle.atomic_table.specs.Table.{Step, Allows}
 use Rattle.tau_shown.proofs.Steps.{words_step, loads_word}
-use Rattle.tau_machine.specs.Shard.{at}
-use Rattle.tau_machine.proofs.At.{at_same, at_other}
+use Rattle.tau_shard.specs.Shard.{at}
+use Rattle.tau_shard.proofs.At.{at_same, at_other}
 use Rattle.tau_core.specs.State.{Plain}
 use Rattle.tau_occ.specs.declared.style.Style.{Style}
 use Rattle.tau_rule.specs.Role.{Role}

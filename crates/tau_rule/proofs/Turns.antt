@@ -6,11 +6,11 @@ use native.Mathlib.Decide.{ℕ_discrete}
 use Rattle.tau_base.specs.declared.limits.TheConstants.{SHARDS}
 use Rattle.tau_model.specs.History.{Act}
 use Rattle.tau_machine.specs.Hands.{Txn}
-use Rattle.tau_machine.specs.Shard.{Shard}
+use Rattle.tau_shard.specs.Shard.{Shard}
 use Rattle.tau_machine.specs.Worker.{Worker}
 use Rattle.tau_machine.specs.State.{Core}
 use Rattle.tau_machine.specs.Events.{Event, Persist, Leads, with_worker, with_shard}
-use Rattle.tau_machine.proofs.At.{at_same, at_other}
+use Rattle.tau_shard.proofs.At.{at_same, at_other}
 use Rattle.tau_machine.proofs.Snoc.{member_snoc}
 use Rattle.tau_machine.specs.Invariant.{Invariant}
 use Rattle.tau_machine.proofs.Runs.{lead_on_more, run_invariant}

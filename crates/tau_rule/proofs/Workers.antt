@@ -10,12 +10,12 @@ use Rattle.tau_base.specs.Shards.{shard_number}
 use Rattle.tau_proc.specs.declared.proc.Proc.{Proc}
 use Rattle.tau_model.specs.History.{Act}
 use Rattle.tau_machine.specs.Hands.{Txn, Hand, Running, Freeing, mode_of, lv_of}
-use Rattle.tau_machine.specs.Shard.{Shard, entry_in, shard_locked, shard_freed}
+use Rattle.tau_shard.specs.Shard.{Shard, entry_in, shard_locked, shard_freed}
 use Rattle.tau_machine.specs.Worker.{Worker, begun, hand_locked, hand_busy, settled, hand_freed}
 use Rattle.tau_machine.specs.State.{Core}
 use Rattle.tau_machine.specs.Waits.{IsBarred}
 use Rattle.tau_machine.specs.Events.{Lock, Busy, Free, Conflicts, lock_next, with_worker, with_shard}
-use Rattle.tau_machine.proofs.At.{at_itself}
+use Rattle.tau_shard.proofs.At.{at_itself}
 use Rattle.tau_txn.specs.declared.standing.Standing.{Standing}
 use Rattle.tau_txn.specs.declared.standing.Standing.TheVariants as standing
 use Rattle.tau_txn.specs.Hand.{PlainHand}

@@ -3,7 +3,7 @@ use Rattle.std.specs.Prelude.{ℕ, ◌*◌, ◌<◌, ◌≡◌, ◌≢◌, List,
 use Rattle.atomic_table.specs.Table.{Me, Step, Allows}
 use Rattle.tau_model.specs.History.{Act}
 use Rattle.tau_machine.specs.Hands.{Txn}
-use Rattle.tau_machine.specs.Shard.{Shard}
+use Rattle.tau_shard.specs.Shard.{Shard}
 use Rattle.tau_machine.specs.Worker.{Worker, begun}
 use Rattle.tau_machine.specs.State.{Core}
 use Rattle.tau_machine.specs.Events.{Event, Leads, with_worker, with_shard}

@@ -13,7 +13,7 @@ use Rattle.tau_machine.specs.Invariant.{Invariant}
 use Rattle.tau_machine.specs.Events.{Event, Lock, Busy, Quit, Commit, Post, Free, FirstFree, Done, DoneReading, Drop, Gather, PlaceAnchor, Persist, Ack, Stop, Resume, Leads, Gathered, stop, record_first, anchor_first}
 use Rattle.tau_machine.specs.Runs.{IsOpening}
 use Rattle.tau_machine.proofs.Accounts.{committed_append}
-use Rattle.tau_machine.proofs.At.{at_other}
+use Rattle.tau_shard.proofs.At.{at_other}
 use Rattle.tau_machine.proofs.Runs.{run_invariant}
 use Rattle.tau_run.specs.Run.{pair_of}
 use Rattle.tau_run.specs.Turns.{Progress, begun, Goes, Tells}

@@ -10,12 +10,12 @@ use Rattle.tau_base.specs.declared.limits.TheConstants.{MAX_TRIES}
 use Rattle.tau_model.specs.History.{Act, Numbered}
 use Rattle.tau_model.specs.declared.committed.Committed.{Committed}
 use Rattle.tau_machine.specs.Hands.{Txn, committed_of, Phase, Running, Quitting, Placed, Freeing, Hand, act_of}
-use Rattle.tau_machine.specs.Shard.{at, entry_in}
+use Rattle.tau_shard.specs.Shard.{at, entry_in}
 use Rattle.tau_machine.specs.State.{Setting, Core}
 use Rattle.tau_machine.specs.Worker.{Worker, fresh, begun_by, begun, settled_by, settled, hand_locked, hand_busy, hand_quit, hand_joined, hand_freed}
 use Rattle.tau_machine.specs.Accounts.{one, in_calls, in_committed, in_phase, in_hand}
 use Rattle.tau_machine.specs.Events.{Event, Lock, Busy, Quit, Commit, Post, Free, FirstFree, Done, DoneReading, Drop, Gather, PlaceAnchor, Persist, Ack, Stop, Resume, Leads, ready, Gathered, stop, record_first, anchor_first, Reads, Frees, Finishes}
-use Rattle.tau_machine.proofs.At.{at_same, at_other}
+use Rattle.tau_shard.proofs.At.{at_same, at_other}
 use Rattle.tau_machine.proofs.Accounts.{calls_append, committed_append}
 use Rattle.tau_machine.proofs.Commits.{begun_committed}
 use Rattle.tau_run.specs.Keeping.{Keeps, KeepsOf, Steady}

@@ -14,13 +14,13 @@ use Rattle.tau_proc.specs.declared.proc.Proc.{Proc}
 use Rattle.tau_model.specs.History.{Numbered, Act, Member}
 use Rattle.tau_machine.specs.Stage.{Stage, Wants, Ends, stage}
 use Rattle.tau_machine.specs.Hands.{Txn, Hand, Phase, Running, Quitting, Placed, Freeing}
-use Rattle.tau_machine.specs.Shard.{at}
+use Rattle.tau_shard.specs.Shard.{at}
 use Rattle.tau_machine.specs.State.{Setting, Core}
 use Rattle.tau_machine.specs.Worker.{Worker, fresh, begun_by, unlocked, write_want, lock_of, hand_locked, settled_by, settled, hand_busy, hand_quit, hand_joined, hand_freed}
 use Rattle.tau_machine.specs.Worker as worker
 use Rattle.tau_machine.specs.Events.{Event, Lock, Busy, Quit, Commit, Post, Free, FirstFree, Done, DoneReading, Drop, Gather, PlaceAnchor, Persist, Ack, Stop, Resume, Leads, Gathered, stop, record_first, anchor_first, ready, lock_next}
 use Rattle.tau_machine.specs.Runs.{IsOpening}
-use Rattle.tau_machine.proofs.At.{at_same, at_other, at_at}
+use Rattle.tau_shard.proofs.At.{at_same, at_other, at_at}
 use Rattle.tau_occ.specs.declared.style.Style.TheVariants.{Optimistic}
 use Rattle.tau_text.specs.declared.load.Turn.{Turn}
 use Rattle.tau_text.specs.declared.load.Turn.TheVariants as turn

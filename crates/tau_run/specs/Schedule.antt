@@ -11,7 +11,7 @@ use Rattle.tau_base.specs.declared.value.Value.{Value}
 use Rattle.tau_proc.specs.Effect.{Effect}
 use Rattle.tau_machine.specs.Stage.{Wants, Ends, stage}
 use Rattle.tau_machine.specs.Hands.{Hand, Running}
-use Rattle.tau_machine.specs.Shard.{at}
+use Rattle.tau_shard.specs.Shard.{at}
 use Rattle.tau_machine.specs.State.{Setting, Ticket, Core}
 use Rattle.tau_machine.specs.Events.{Event, Lock, Busy, Done, DoneReading, Drop, Resume, ready, lock_next}
 use Rattle.tau_machine.specs.Waits.{BusyHasHolder, IsBarred}

@@ -1,17 +1,14 @@
--- The test of who stands against a lock, and the theory's word for it.
+-- Who stands against a lock, and who holds a key that is locked.
 use Rattle.std.proofs.Common.{ℕ, true, false, ◌≡◌, ◌⊎◌, inl, inr, refl, ap, ◌∙◌, Option}
 use Rattle.std.specs.Prelude.{Some, None}
-use Rattle.std.proofs.lemmas.Bool.{ne_eqb, both_ways}
 use Rattle.tau_base.specs.declared.value.Key.{Key}
 use Rattle.tau_base.specs.declared.value.Mode.{Mode}
 use Rattle.tau_base.specs.declared.value.Mode.TheVariants.{Read, Write}
-use Rattle.tau_machine.specs.Shard.{Entry, Shard, entry_in, held_as, shard_locked}
-use Rattle.tau_machine.specs.State.{Setting}
-use Rattle.tau_machine.specs.Events.{Conflicts}
-use Rattle.tau_machine.proofs.At.{at_same, entry_same}
-use Rattle.tau_shard.specs.Blocks.{against, blocks}
+use Rattle.tau_shard.specs.Shard.{Entry, Shard, entry_in, held_as, shard_locked}
+use Rattle.tau_shard.proofs.At.{at_same, entry_same}
+use Rattle.tau_shard.specs.Blocks.{against}
 
-against_from : (m n : Mode) → (m ≡ Write) ⊎ (n ≡ Write) → against m (Some n) ≡ true
+pub against_from : (m n : Mode) → (m ≡ Write) ⊎ (n ≡ Write) → against m (Some n) ≡ true
 against_from Read Read h = elim h [ inl e ↦ absurd (let bad : Read ≡ Write = e in cc) | inr e ↦ absurd (let bad : Read ≡ Write = e in cc) ]
 against_from Read Write h = refl
 against_from Write n h = refl
@@ -22,11 +19,6 @@ against_to Write None h = absurd (let bad : false ≡ true = h in cc)
 against_to Read (Some Read) h = absurd (let bad : false ≡ true = h in cc)
 against_to Read (Some Write) h = (Write, refl, inr refl)
 against_to Write (Some n) h = (n, refl, inl refl)
-
--- where the test finds nobody, there is no conflict
-pub no_conflict : (set : Setting) (sh : Shard) (w : ℕ) (x : Key) (m : Mode) → ((u : ℕ) → blocks (entry_in sh x) w m u ≡ false) → Conflicts set sh w x m → ⊥
-no_conflict set sh w x m free h =
-    both_ways (blocks (entry_in sh x) w m h.0) (free h.0) (rw (ne_eqb h.0 w h.2, h.3) (against_from m h.1 h.4))
 
 -- a locked key is held
 pub locked_held : (sh : Shard) (w : ℕ) (x : Key) (m : Mode) → (entry_in (shard_locked sh w x m) x).holders w ≡ Some m

@@ -11,7 +11,7 @@ use Rattle.tau_base.specs.declared.value.Value.{Value}
 use Rattle.tau_base.specs.declared.value.Mode.TheVariants.{Write}
 use Rattle.tau_base.specs.Vectors.{AtMost, covers, join}
 use Rattle.tau_base.proofs.Vectors.{join_left, join_right, join_below, join_wider, at_most_trans, at_most_itself, covers_at_most, at_most_covers}
-use Rattle.tau_machine.specs.Shard.{Entry, entry_or, Dropped}
+use Rattle.tau_shard.specs.Shard.{Entry, entry_or, Dropped}
 use Rattle.tau_shard.specs.declared.entry.LockEntry.{LockEntry}
 use Rattle.tau_shard.specs.Plain.{PlainShard}
 use Rattle.tau_shard.specs.Read.{is_key, entry_of, entry_option, shard_of}
@@ -20,7 +20,7 @@ use Rattle.tau_shard.proofs.Masks.{nobody, zero_from}
 use Rattle.tau_shard.proofs.Puts.{is_key_itself, is_key_is, is_key_same}
 use Rattle.tau_base.proofs.Keys.{same_key_sym}
 use Rattle.tau_base.proofs.Logic.{and_from}
-use Rattle.tau_machine.specs.Shard as theory
+use Rattle.tau_shard.specs.Shard as theory
 
 -- nobody holds the key, and v covers both vectors
 abbrev pub IsCovered : List ℕ → theory.Entry → Type 0

@@ -5,3 +5,4 @@ pub mod Puts
 pub mod Sweeps
 pub mod Rows
 pub mod Stands
+pub mod At

@@ -7,8 +7,8 @@ use Rattle.std.proofs.lemmas.Bool.{cases_Bool, cases_eq, cases_lt, eq-eqb}
 use Rattle.std.proofs.lemmas.Nat.Bits.{bit_at_set_same, bit_at_set_other, bit_at_clear_same, bit_at_clear_other, bit_at_and, bit_at_above, bit_at_or, bit_at-trailing_zeros, bit_at-zero, bit_at-lt, same_from_bits}
 use Rattle.tau_base.specs.declared.value.Mode.{Mode}
 use Rattle.tau_base.specs.declared.value.Mode.TheVariants.{Read, Write}
-use Rattle.tau_machine.specs.Shard.{at, Entry, entry_or, held_as}
-use Rattle.tau_machine.proofs.At.{at_same, at_other}
+use Rattle.tau_shard.specs.Shard.{at, Entry, entry_or, held_as}
+use Rattle.tau_shard.proofs.At.{at_same, at_other}
 use Rattle.tau_shard.specs.declared.entry.LockEntry.{LockEntry}
 use Rattle.tau_shard.specs.Read.{bits, holder, entry_of}
 use Rattle.tau_shard.specs.Blocks.{against, blocks, IsLeast}

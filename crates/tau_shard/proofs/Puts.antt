@@ -15,9 +15,8 @@ use Rattle.tau_base.specs.Database.{Db, same_key, written}
 use Rattle.tau_base.specs.Vectors.{join}
 use Rattle.tau_base.proofs.Vectors.{join_at, join_wider, join_from}
 use Rattle.tau_base.proofs.Keys.{same_key_itself, same_key_is, same_key_sym, same_key_equal}
-use Rattle.tau_machine.specs.Shard.{at, Entry, Shard, entry_or, put_entry, held_as}
-use Rattle.tau_machine.proofs.At.{at_same, at_other}
-use Rattle.tau_machine.proofs.Modes.{cases_key}
+use Rattle.tau_shard.specs.Shard.{at, Entry, Shard, entry_or, put_entry, held_as}
+use Rattle.tau_shard.proofs.At.{at_same, at_other, cases_key}
 use Rattle.tau_shard.specs.declared.entry.LockEntry.{LockEntry}
 use Rattle.tau_shard.specs.declared.entry.ShardRefusal.{ShardRefusal}
 use Rattle.tau_shard.specs.Read.{is_key, entry_of, entry_option}

@@ -16,7 +16,11 @@ use Rattle.tau_shard.specs.Read.{is_key}
 use Rattle.tau_shard.specs.Present.{is_present, present_rows}
 use Rattle.tau_shard.proofs.Drops.{key_laws}
 use Rattle.tau_shard.proofs.Sweeps.{drop_next, drop_past}
-use Rattle.tau_model.proofs.Places.{same_test}
+use Rattle.tau_shard.proofs.Puts.{is_key_same}
+
+-- maps find keys as the order of keys does
+same_test : is_key ≡ same_key
+same_test = fun_ext (λ a. fun_ext (λ b. is_key_same a b))
 
 module _ (rows : List (Key × Value)) (distinct : IsDistinct is_key (keys_of rows)) where
   kept : (o : Option Value) → unwrap_or (option_filter is_present o) Absent ≡ unwrap_or o Absent

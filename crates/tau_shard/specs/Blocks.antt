@@ -7,8 +7,8 @@ use Rattle.tau_base.specs.declared.value.Mode.{Mode}
 use Rattle.tau_base.specs.declared.value.Mode.TheVariants.{Read, Write}
 use Rattle.tau_base.specs.Vectors.{covers}
 use Rattle.tau_base.specs.Vectors.{join}
-use Rattle.tau_machine.specs.Shard as theory
-use Rattle.tau_machine.specs.Shard.{entry_in}
+use Rattle.tau_shard.specs.Shard as theory
+use Rattle.tau_shard.specs.Shard.{entry_in}
 use Rattle.tau_shard.specs.declared.entry.ShardRefusal.{ShardRefusal}
 use Rattle.tau_shard.specs.declared.entry.ShardRefusal.TheVariants.{NoMemory, Busy}
 use Rattle.tau_shard.specs.declared.entry.LockEntry.{LockEntry}

@@ -3,3 +3,4 @@ pub mod Plain
 pub mod Present
 pub mod Read
 pub mod Stands
+pub mod Shard

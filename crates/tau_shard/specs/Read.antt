@@ -8,7 +8,7 @@ use Rattle.tau_base.specs.declared.value.Mode.{Mode}
 use Rattle.tau_base.specs.declared.value.Mode.TheVariants.{Read, Write}
 use Rattle.std.specs.Ordering.{int_eq}
 use Rattle.tau_base.specs.declared.value.Key.{Key}
-use Rattle.tau_machine.specs.Shard as theory
+use Rattle.tau_shard.specs.Shard as theory
 use Rattle.tau_shard.specs.declared.entry.LockEntry.{LockEntry}
 use Rattle.tau_shard.specs.Plain.{PlainShard}
 

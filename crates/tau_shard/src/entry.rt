@@ -1,7 +1,7 @@
 //! Lock entries.
 ghost use Rattle.std.specs.Prelude.{◌≡◌, ◌<◌, ℕ, false, None, Some, IfNone, IfSome};
 ghost use Rattle.tau_base.specs.Vectors.{join};
-ghost use Rattle.tau_machine.specs.Shard.{entry_or, held_as};
+ghost use Rattle.tau_shard.specs.Shard.{entry_or, held_as};
 ghost use Rattle.tau_shard.specs.Read.{bits, entry_of};
 ghost use Rattle.tau_shard.specs.Blocks.{against, blocks, IsLowest, covered, dep_locked};
 ghost use Rattle.tau_shard.specs.declared.entry.ShardRefusal.TheVariants.{NoMemory};

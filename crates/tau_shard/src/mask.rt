@@ -1,6 +1,6 @@
 //! Sets of workers, as masks with a bit for each of 32 workers.
 ghost use Rattle.std.specs.Prelude.{◌≡◌, ◌<◌, ℕ, ◌||◌, true, false, IfNone, IfSome};
-ghost use Rattle.tau_machine.specs.Shard.{at};
+ghost use Rattle.tau_shard.specs.Shard.{at};
 ghost use Rattle.tau_shard.specs.Read.{bits};
 ghost use Rattle.tau_shard.specs.Blocks.{IsLeast};
 

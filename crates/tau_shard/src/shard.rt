@@ -4,7 +4,7 @@ ghost use Rattle.std.specs.Map.{lookup, keys_of};
 ghost use Rattle.std.specs.Option.{option_copied, unwrap_or};
 ghost use Rattle.tau_base.specs.Vectors.{join};
 ghost use Rattle.tau_base.specs.Database.{same_key, written, db_of};
-ghost use Rattle.tau_machine.specs.Shard.{entry_in, entry_or, held_as, put_entry, shard_locked, shard_quit, shard_freed, Dropped};
+ghost use Rattle.tau_shard.specs.Shard.{entry_in, entry_or, held_as, put_entry, shard_locked, shard_quit, shard_freed, Dropped};
 ghost use Rattle.tau_shard.specs.Read.{is_key, entry_of, shard_of};
 ghost use Rattle.tau_shard.specs.declared.entry.LockEntry.{LockEntry as EntryOf};
 ghost use Rattle.std.specs.List.{IsDistinct};

@@ -7,10 +7,10 @@ use Rattle.tau_base.specs.Vectors.{covers}
 use Rattle.tau_base.proofs.Vectors.{at_most_covers}
 use Rattle.tau_model.specs.History.{Act}
 use Rattle.tau_machine.specs.Hands.{Txn}
-use Rattle.tau_machine.specs.Shard.{at}
+use Rattle.tau_shard.specs.Shard.{at}
 use Rattle.tau_machine.specs.State.{Core, Ticket}
 use Rattle.tau_machine.specs.Events as machine
-use Rattle.tau_machine.proofs.At.{at_same}
+use Rattle.tau_shard.proofs.At.{at_same}
 use Rattle.tau_ack.specs.declared.Waiting.{Waiting}
 use Rattle.tau_ack.specs.Pending.{NoneCovered, TakesFirst}
 use Rattle.tau_core.specs.declared.state.Load.{Load}

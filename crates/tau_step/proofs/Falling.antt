@@ -12,13 +12,13 @@ use Rattle.tau_base.specs.Database.{same_key}
 use Rattle.tau_proc.specs.declared.proc.Proc.{Proc}
 use Rattle.tau_model.specs.History.{Act, Numbered}
 use Rattle.tau_machine.specs.Hands.{Txn, committed_of, Phase, Running, Quitting, Placed, Freeing, Hand, mode_of, without, hold}
-use Rattle.tau_machine.specs.Shard.{at, entry_in}
+use Rattle.tau_shard.specs.Shard.{at, entry_in}
 use Rattle.tau_machine.specs.Stage.{Stage, Wants, Ends, stage}
 use Rattle.tau_machine.specs.State.{Setting, Core}
 use Rattle.tau_machine.specs.Worker.{Worker, fresh, begun, begun_by, held_writing, unlocked, write_want, lock_of, hand_locked, settled, settled_by, hand_busy, hand_quit, hand_joined, hand_freed}
 use Rattle.tau_machine.specs.Events.{Event, Lock, Busy, Quit, Commit, Post, Free, FirstFree, Done, DoneReading, Drop, Gather, PlaceAnchor, Persist, Ack, Stop, Resume, Leads, ready, Locks, Refuses, Quits, Commits, Posts, Reads, Frees, Finishes}
-use Rattle.tau_machine.proofs.At.{at_same}
-use Rattle.tau_machine.proofs.Modes.{cases_key, hold_same, hold_other}
+use Rattle.tau_shard.proofs.At.{at_same, cases_key}
+use Rattle.tau_machine.proofs.Modes.{hold_same, hold_other}
 use Rattle.tau_run.specs.Turns.{IsOwn}
 use Rattle.tau_step.specs.Remains.{times, not_held, writes_left, size_of, locks_left, try_left, up_left, phase_left, hand_left, hand_in_left, calls_left, worker_left}
 use Rattle.tau_step.proofs.Readings.{reads_few, reads_fewer, hold_more, writes_few}

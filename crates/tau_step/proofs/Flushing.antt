@@ -17,10 +17,10 @@ use Rattle.tau_stream.specs.Stream.{IsOldOrNew, MayHold}
 use Rattle.tau_stream.specs.Writer.{FlushStops, disk_of, durable_of, gathered_of, left_of, has_failed, part_upto, IsReady}
 use Rattle.tau_model.specs.History.{Act}
 use Rattle.tau_machine.specs.Hands.{Txn}
-use Rattle.tau_machine.specs.Shard.{at}
+use Rattle.tau_shard.specs.Shard.{at}
 use Rattle.tau_machine.specs.State.{Core, Stream, Item}
 use Rattle.tau_machine.specs.Events as machine
-use Rattle.tau_machine.proofs.At.{at_same, at_other}
+use Rattle.tau_shard.proofs.At.{at_same, at_other}
 use Rattle.tau_core.specs.declared.state.Load.{Load}
 use Rattle.tau_core.specs.declared.event.Event.TheVariants as event
 use Rattle.tau_core.specs.declared.event.Outcome.{Outcome}

@@ -14,12 +14,12 @@ use Rattle.tau_stream.specs.declared.writer.Writer.{Writer}
 use Rattle.tau_stream.specs.Writer.{disk_of, has_failed, IsReady}
 use Rattle.tau_model.specs.History.{Act}
 use Rattle.tau_machine.specs.Hands.{Txn}
-use Rattle.tau_machine.specs.Shard.{at}
+use Rattle.tau_shard.specs.Shard.{at}
 use Rattle.tau_machine.specs.State.{Setting, Core, Stream, Item, past_of}
 use Rattle.tau_machine.specs.Events as machine
 use Rattle.tau_machine.specs.Waits.{IsGathered, Waits}
 use Rattle.tau_machine.specs.Events.{Gathered, stop, record_first, anchor_first}
-use Rattle.tau_machine.proofs.At.{at_same}
+use Rattle.tau_shard.proofs.At.{at_same}
 use Rattle.tau_outbox.specs.declared.Piece.{Piece}
 use Rattle.tau_outbox.specs.Gather.{Stops}
 use Rattle.tau_core.specs.declared.state.Load.{Load}

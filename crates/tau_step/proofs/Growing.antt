@@ -5,10 +5,10 @@ use Rattle.std.proofs.lemmas.List.{append-nil}
 use Rattle.std.proofs.lemmas.Bool.{cases_eq}
 use Rattle.tau_model.specs.History.{Act}
 use Rattle.tau_machine.specs.Hands.{Txn}
-use Rattle.tau_machine.specs.Shard.{at}
+use Rattle.tau_shard.specs.Shard.{at}
 use Rattle.tau_machine.specs.State.{Setting, Item, Anchor, Stream, Core, past_of}
 use Rattle.tau_machine.specs.Events.{Event, Lock, Busy, Quit, Commit, Post, Free, FirstFree, Done, DoneReading, Drop, Gather, PlaceAnchor, Persist, Ack, Stop, Resume, Leads, Gathered, stop, record_first, anchor_first, GathersRecord, GathersAnchor}
-use Rattle.tau_machine.proofs.At.{at_same, at_other}
+use Rattle.tau_shard.proofs.At.{at_same, at_other}
 use Rattle.tau_core.proofs.AnchorNames as more
 use Rattle.tau_step.specs.Along.{Grows, SameAt}
 use Rattle.tau_step.proofs.Spared.{Spares}

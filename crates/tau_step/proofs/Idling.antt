@@ -2,10 +2,10 @@
 use Rattle.std.proofs.Common.{ℕ, ◌<◌, ◌==◌, ◌≡◌, ◌⊎◌, Bool, true, false, inl, inr, List, [], ◌∷◌, ◌++◌, length, refl, sym, ap, subst, ◌∙◌, Option, arith, lt-ltb, get_or-set_same}
 use Rattle.std.specs.Prelude.{Some, None, is_none, nat_lt, slice_index}
 use Rattle.std.proofs.lemmas.Bool.{cases_Bool, cases_eq, eq-eqb}
-use Rattle.tau_machine.specs.Shard.{at}
+use Rattle.tau_shard.specs.Shard.{at}
 use Rattle.tau_machine.specs.State.{Setting, Core, Stream}
 use Rattle.tau_machine.specs.Events.{Gathered, stop, record_first, anchor_first}
-use Rattle.tau_machine.proofs.At.{at_same, at_other}
+use Rattle.tau_shard.proofs.At.{at_same, at_other}
 use Rattle.tau_occ.specs.declared.style.Style.{Style}
 use Rattle.tau_run.specs.Schedule.{Drain, Drained, Leaves, Steps, peeked, on}
 use Rattle.tau_run.proofs.Steps.{Did}

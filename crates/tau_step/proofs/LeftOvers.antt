@@ -10,8 +10,8 @@ use Rattle.tau_machine.specs.Worker.{Worker}
 use Rattle.tau_machine.specs.State.{Core}
 use Rattle.tau_machine.specs.Events as machine
 use Rattle.tau_machine.specs.Events.{Resumes, with_worker}
-use Rattle.tau_machine.specs.Shard.{at}
-use Rattle.tau_machine.proofs.At.{at_same, at_other}
+use Rattle.tau_shard.specs.Shard.{at}
+use Rattle.tau_shard.proofs.At.{at_same, at_other}
 use Rattle.tau_core.specs.declared.state.Load.{Load}
 use Rattle.tau_core.specs.State.{Plain}
 use Rattle.tau_core.specs.View.{Hidden, core_of, setting_of, worker_at, worker_in, committed_by}

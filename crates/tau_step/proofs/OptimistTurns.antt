@@ -14,13 +14,13 @@ use Rattle.tau_model.specs.History.{Act, Member, Numbered}
 use Rattle.tau_machine.specs.Hands as hands
 use Rattle.tau_machine.specs.Hands.{Txn, Hand}
 use Rattle.tau_machine.specs.Stage.{Stage, Wants, Ends, stage}
-use Rattle.tau_machine.specs.Shard.{at}
+use Rattle.tau_shard.specs.Shard.{at}
 use Rattle.tau_machine.specs.Shapes.{IsCall, WorkerShape}
 use Rattle.tau_machine.specs.State.{Setting, Core}
 use Rattle.tau_machine.specs.Worker.{Worker, begun, begun_by, fresh, lock_of}
 use Rattle.tau_machine.specs.Events as machine
 use Rattle.tau_machine.specs.Events.{Leads, ready, lock_next}
-use Rattle.tau_machine.proofs.At.{at_same, at_itself}
+use Rattle.tau_shard.proofs.At.{at_same, at_itself}
 use Rattle.tau_core.specs.declared.state.Load.{Load}
 use Rattle.tau_core.specs.declared.event.Phase.TheVariants.{Locking}
 use Rattle.tau_core.specs.NextLock.{TellsLock}

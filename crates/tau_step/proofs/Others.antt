@@ -8,7 +8,7 @@ use Rattle.tau_machine.specs.Hands.{Txn}
 use Rattle.tau_machine.specs.Worker.{Worker}
 use Rattle.tau_machine.specs.State.{Setting, Core, Stream}
 use Rattle.tau_machine.specs.Events.{Event, Lock, Busy, Quit, Commit, Post, Free, FirstFree, Done, DoneReading, Drop, Gather, PlaceAnchor, Persist, Ack, Stop, Resume, Leads, Gathered, stop, record_first, anchor_first}
-use Rattle.tau_machine.proofs.At.{at_other}
+use Rattle.tau_shard.proofs.At.{at_other}
 use Rattle.tau_run.specs.Run.{below}
 use Rattle.tau_run.specs.Turns.{Progress, IsOwn, is_raised, is_empty}
 use Rattle.tau_step.specs.TurnParts.{OneByOne, DropOf, WorkedPart, ManagedPart, AnchoredPart, Clerked, has_work}

@@ -13,7 +13,7 @@ use Rattle.tau_machine.specs.Hands as hands
 use Rattle.tau_machine.specs.Hands.{Txn, Hand}
 use Rattle.tau_machine.specs.Stage.{Ends, Wants, stage}
 use Rattle.tau_proc.specs.Effect.{Effect}
-use Rattle.tau_machine.specs.Shard.{at}
+use Rattle.tau_shard.specs.Shard.{at}
 use Rattle.tau_machine.specs.Events as machine
 use Rattle.tau_machine.specs.Events.{ready, lock_next}
 use Rattle.tau_core.specs.State.{Plain}
@@ -34,7 +34,7 @@ use Rattle.tau_core.specs.declared.event.Acted.TheVariants as acted
 use Rattle.tau_core.specs.declared.event.Outcome.{Outcome}
 use Rattle.tau_core.specs.declared.event.Outcome.TheVariants as outcome
 use Rattle.tau_core.specs.declared.event.Phase.TheVariants.{Locking}
-use Rattle.tau_machine.proofs.At.{at_itself}
+use Rattle.tau_shard.proofs.At.{at_itself}
 use Rattle.tau_core.specs.Steps.{Happened, LockSteps}
 use Rattle.tau_core.specs.NextLock.{TellsLock}
 use Rattle.tau_occ.specs.declared.style.Style.TheVariants.{Optimistic}

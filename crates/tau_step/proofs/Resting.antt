@@ -6,7 +6,7 @@ use Rattle.tau_model.specs.History.{Numbered}
 use Rattle.tau_machine.specs.Hands.{Hand}
 use Rattle.tau_machine.specs.State.{Setting, Core}
 use Rattle.tau_machine.specs.Events.{Resume}
-use Rattle.tau_machine.proofs.At.{at_other}
+use Rattle.tau_shard.proofs.At.{at_other}
 use Rattle.tau_run.specs.Run.{below}
 use Rattle.tau_occ.specs.declared.style.Style.{Style}
 use Rattle.tau_core.specs.declared.state.Load.{Load}

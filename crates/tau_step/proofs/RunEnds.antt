@@ -11,13 +11,13 @@ use Rattle.tau_model.proofs.Logged.{member_filtered}
 use Rattle.tau_model.proofs.Orders.{member_back}
 use Rattle.tau_machine.specs.Hands.{Txn}
 use Rattle.tau_machine.specs.Worker.{Worker}
-use Rattle.tau_machine.specs.Shard.{at}
+use Rattle.tau_shard.specs.Shard.{at}
 use Rattle.tau_machine.specs.Pieces.{Chain, Ascending, PostedAt, Flying, placed_in, records_in, StreamGood}
 use Rattle.tau_machine.specs.Invariant.{Invariant}
 use Rattle.tau_machine.specs.State.{Setting, Ticket, Item, Record, Core, Stream, Outbox, start_of, past_of}
 use Rattle.tau_machine.specs.Events.{Event, Lock, Busy, Quit, Commit, Post, Free, FirstFree, Done, DoneReading, Drop, Gather, PlaceAnchor, Persist, Ack, Stop, Resume, Leads, Gathered, stop, record_first, anchor_first}
 use Rattle.tau_machine.specs.Waits.{IsGathered, Waits}
-use Rattle.tau_machine.proofs.At.{at_same, at_other}
+use Rattle.tau_shard.proofs.At.{at_same, at_other}
 use Rattle.tau_machine.proofs.Pieces.{chain_member, records_append}
 use Rattle.tau_machine.proofs.Results.{committed_theorem}
 use Rattle.tau_text.specs.declared.load.Turn.{Turn}

@@ -10,12 +10,12 @@ use Rattle.tau_model.specs.History.{Act, updating, Numbered}
 use Rattle.tau_machine.specs.Hands as machine
 use Rattle.tau_machine.specs.Hands.{Txn, Hand, held_in}
 use Rattle.tau_machine.specs.Stage.{Stage, Wants, Ends}
-use Rattle.tau_machine.specs.Shard.{at, entry_in}
+use Rattle.tau_shard.specs.Shard.{at, entry_in}
 use Rattle.tau_machine.specs.Worker.{Worker, begun_by, hand_freed, hand_locked}
 use Rattle.tau_machine.specs.State.{Setting, Core}
 use Rattle.tau_machine.specs.Events as events
 use Rattle.tau_machine.specs.Events.{Locks, Commits, Posts, Reads, Frees, Finishes, ready}
-use Rattle.tau_machine.proofs.At.{at_same, at_other}
+use Rattle.tau_shard.proofs.At.{at_same, at_other}
 use Rattle.tau_shard.specs.Blocks.{against}
 use Rattle.tau_core.specs.declared.event.Event.TheVariants as event
 use Rattle.tau_core.specs.declared.event.Outcome.{Outcome}

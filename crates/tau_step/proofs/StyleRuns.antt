@@ -12,9 +12,9 @@ use Rattle.tau_base.proofs.Logic.{some_is}
 use Rattle.tau_text.specs.declared.load.Workload.{Workload}
 use Rattle.tau_model.specs.History.{Act}
 use Rattle.tau_machine.specs.Hands.{Txn}
-use Rattle.tau_machine.specs.Shard.{at}
+use Rattle.tau_shard.specs.Shard.{at}
 use Rattle.tau_machine.specs.Events as machine
-use Rattle.tau_machine.proofs.At.{at_same, at_other, at_itself}
+use Rattle.tau_shard.proofs.At.{at_same, at_other, at_itself}
 use Rattle.tau_core.specs.declared.state.Load.{Load}
 use Rattle.tau_core.specs.State.{Plain}
 use Rattle.tau_core.specs.Stands.{Stands, Stood}

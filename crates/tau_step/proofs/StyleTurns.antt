@@ -7,7 +7,7 @@ use Rattle.tau_base.specs.declared.value.Value.{Value}
 use Rattle.tau_machine.specs.Events.{Event, Lock, Busy, Quit, Commit, Post, Free, FirstFree, Done, DoneReading, Drop, Gather, PlaceAnchor, Persist, Ack, Stop, Resume}
 use Rattle.tau_machine.specs.State.{Setting}
 use Rattle.tau_machine.specs.Worker.{Worker}
-use Rattle.tau_machine.proofs.At.{at_same, at_other}
+use Rattle.tau_shard.proofs.At.{at_same, at_other}
 use Rattle.tau_occ.specs.declared.style.Style.{Style}
 use Rattle.tau_occ.specs.declared.style.Style.TheVariants.{Locking, Optimistic}
 use Rattle.tau_run.specs.Turns.{Progress, IfSo, IsOwn, Goes, is_raised, is_empty}

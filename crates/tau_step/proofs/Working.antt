@@ -6,7 +6,7 @@ use Rattle.tau_base.specs.Shards.{shard_number}
 use Rattle.tau_base.specs.declared.value.NoMemory.{NoMemory}
 use Rattle.tau_model.specs.History.{Act}
 use Rattle.tau_machine.specs.Hands.{Txn, Hand}
-use Rattle.tau_machine.specs.Shard.{entry_in}
+use Rattle.tau_shard.specs.Shard.{entry_in}
 use Rattle.tau_machine.specs.State.{Core, hand_of}
 use Rattle.tau_shard.specs.Blocks.{against}
 use Rattle.tau_machine.specs.Events as machine

@@ -12,7 +12,7 @@ use Rattle.tau_proc.specs.Effect.{Effect}
 use Rattle.tau_model.specs.History.{Act}
 use Rattle.tau_machine.specs.Stage.{Wants, Ends, stage}
 use Rattle.tau_machine.specs.Hands.{Txn, Hand}
-use Rattle.tau_machine.specs.Shard.{at}
+use Rattle.tau_shard.specs.Shard.{at}
 use Rattle.tau_machine.specs.Events as machine
 use Rattle.tau_machine.specs.Events.{ready}
 use Rattle.tau_core.specs.declared.state.Load.{Load}

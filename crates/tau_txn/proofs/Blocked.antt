@@ -4,7 +4,7 @@ use Rattle.std.specs.Prelude.{Option, Some, None, IsSome, not, ◌==◌}
 use Rattle.std.proofs.lemmas.Bool.{and_parts}
 use Rattle.tau_base.specs.declared.value.Mode.{Mode}
 use Rattle.tau_base.specs.declared.value.Mode.TheVariants.{Read, Write}
-use Rattle.tau_machine.specs.Shard.{Entry}
+use Rattle.tau_shard.specs.Shard.{Entry}
 use Rattle.tau_shard.specs.Blocks.{against, RefusedBy}
 use Rattle.tau_shard.specs.declared.entry.ShardRefusal.{ShardRefusal}
 use Rattle.tau_shard.specs.declared.entry.ShardRefusal.TheVariants.{Busy}

@@ -9,7 +9,7 @@ use Rattle.tau_proc.specs.declared.reply.Want.{Want}
 use Rattle.tau_proc.specs.declared.reply.Want.TheVariants.{Read, Write, Finished}
 use Rattle.tau_base.specs.declared.value.LogMode.{LogMode}
 use Rattle.tau_machine.specs.Hands.{Hand, hold}
-use Rattle.tau_machine.specs.Shard.{Shard, entry_in}
+use Rattle.tau_shard.specs.Shard.{Shard, entry_in}
 use Rattle.tau_shard.specs.Blocks.{dep_locked}
 use Rattle.tau_shard.specs.declared.entry.ShardRefusal.{ShardRefusal}
 use Rattle.tau_txn.specs.declared.action.Action.TheVariants as action

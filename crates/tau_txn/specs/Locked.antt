@@ -4,7 +4,7 @@ use Rattle.tau_base.specs.declared.value.Key.{Key}
 use Rattle.tau_base.specs.declared.value.Mode.{Mode}
 use Rattle.tau_proc.specs.declared.proc.Proc.{Proc}
 use Rattle.tau_machine.specs.Hands as theory
-use Rattle.tau_machine.specs.Shard.{Shard, entry_in, shard_locked}
+use Rattle.tau_shard.specs.Shard.{Shard, entry_in, shard_locked}
 use Rattle.tau_shard.specs.Blocks.{blocks, dep_locked}
 use Rattle.tau_txn.specs.declared.standing.Standing.TheVariants.{Running}
 use Rattle.tau_txn.specs.Hand.{PlainHand}

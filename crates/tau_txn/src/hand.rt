@@ -33,7 +33,7 @@ ghost use Rattle.tau_txn.specs.Steps.{lock_by, lock_in, locked_with, first_key, 
 ghost use Rattle.tau_txn.specs.Txn.{shown_of, worker_in, joined_by, lv_by};
 ghost use Rattle.tau_shard.specs.Blocks.{RefusedBy, dep_locked};
 ghost use Rattle.tau_shard.specs.Read.{shard_of};
-ghost use Rattle.tau_machine.specs.Shard.{entry_in};
+ghost use Rattle.tau_shard.specs.Shard.{entry_in};
 ghost use Rattle.tau_txn.specs.Locked.{HandLocked, RunsOn};
 
 use crate::action::{Action, ActionKind};

@@ -23,7 +23,7 @@ ghost use Rattle.tau_txn.specs.Record.{entry_of, kept_of};
 ghost use Rattle.tau_txn.specs.Steps.{locked_with};
 ghost use Rattle.tau_shard.specs.Blocks.{RefusedBy, dep_locked};
 ghost use Rattle.tau_shard.specs.Read.{shard_of};
-ghost use Rattle.tau_machine.specs.Shard.{entry_in};
+ghost use Rattle.tau_shard.specs.Shard.{entry_in};
 ghost use Rattle.tau_txn.specs.Locked.{TxnLocked};
 ghost use Rattle.tau_txn.specs.Txn.{hand_in, worker_of, RunsBy, number_in, dep_in, anchor_in, bytes_in, leaves_in, held_in, lv_in, has_joined};
 

@@ -10,7 +10,7 @@ use Rattle.tau_txn.specs.Txn.{has_joined}
 use Rattle.tau_txn.specs.Narrow.{written_in}
 use Rattle.tau_txn.specs.Next.{IsForWent}
 use Rattle.tau_machine.specs.Hands.{Hand, Freeing, lv_of, committed_of}
-use Rattle.tau_machine.specs.Shard.{shard_freed}
+use Rattle.tau_shard.specs.Shard.{shard_freed}
 use Rattle.tau_machine.specs.Worker.{hand_freed, hand_joined}
 use Rattle.tau_shard.specs.Read.{shard_of}
 use Rattle.tau_core.specs.Plain.{PlainSeat}

@@ -8,7 +8,7 @@ use Rattle.tau_txn.specs.declared.action.Action.{Action}
 use Rattle.tau_txn.specs.declared.action.Action.TheVariants as action
 use Rattle.tau_txn.specs.Next.{IsLock, next_action}
 use Rattle.tau_txn.specs.Txn.{PlainTxn, dep_in, hand_in, worker_of}
-use Rattle.tau_machine.specs.Shard.{Entry, entry_in}
+use Rattle.tau_shard.specs.Shard.{Entry, entry_in}
 use Rattle.tau_machine.specs.Hands.{Hand}
 use Rattle.tau_machine.specs.Worker.{Worker, hand_busy, hand_locked, settled}
 use Rattle.tau_machine.specs.Pieces.{placed_of}

@@ -2,7 +2,7 @@
 use Rattle.std.proofs.Common.{◌≡◌, ap, ◌∙◌, rules}
 use Rattle.std.specs.Prelude.{Some, is_some}
 use Rattle.tau_base.specs.declared.value.Mode.TheVariants.{Write}
-use Rattle.tau_machine.specs.Shard.{Shard, entry_in, shard_locked}
+use Rattle.tau_shard.specs.Shard.{Shard, entry_in, shard_locked}
 use Rattle.tau_shard.specs.Read.{shard_of}
 use Rattle.tau_shard.proofs.Bridge.{locked_held}
 use Rattle.tau_core.proofs.RowPuts.{row_put}

@@ -10,7 +10,7 @@ use Rattle.tau_model.specs.History.{Act}
 use Rattle.tau_shard.specs.Plain.{PlainShard}
 use Rattle.tau_shard.specs.Read.{shard_of}
 use Rattle.tau_machine.specs.Hands.{Freeing, Txn, committed_of, lv_of}
-use Rattle.tau_machine.specs.Shard.{Shard, entry_in, shard_freed}
+use Rattle.tau_shard.specs.Shard.{Shard, entry_in, shard_freed}
 use Rattle.tau_machine.specs.Worker.{hand_freed, hand_joined}
 use Rattle.tau_proc.specs.declared.proc.Proc.{Proc}
 use Rattle.tau_txn.specs.Narrow.{written_in}

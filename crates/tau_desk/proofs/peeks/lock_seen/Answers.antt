@@ -4,7 +4,7 @@ use Rattle.tau_shard.specs.Read.{shard_of}
 use Rattle.tau_machine.specs.Events.{Lock, Busy}
 use Rattle.tau_machine.specs.Hands.{Hand}
 use Rattle.tau_machine.specs.Worker.{Worker, settled, hand_busy}
-use Rattle.tau_machine.specs.Shard.{Shard, entry_in}
+use Rattle.tau_shard.specs.Shard.{Shard, entry_in}
 use Rattle.tau_base.specs.Shards.{shard_number}
 use Rattle.tau_shard.specs.Plain.{PlainShard}
 use Rattle.tau_proc.specs.declared.proc.Proc.{Proc}
@@ -18,7 +18,7 @@ use Rattle.tau_rule.proofs.Turns.{part_shard}
 use Rattle.std.specs.Map.{lookup}
 use Rattle.tau_base.specs.Database.{same_key}
 use Rattle.tau_core.specs.View.{setting_of}
-use Rattle.tau_shard.proofs.Bridge.{no_conflict}
+use Rattle.tau_machine.proofs.Conflicts.{no_conflict}
 use Rattle.tau_desk.proofs.Peeking.{differs_steps, taken_shard}
 use Rattle.tau_desk.proofs.Locking.{granted_steps, busy_steps, refused_held, taken_wide}
 use Rattle.tau_desk.proofs.peeks.lock_seen.Goals as goal

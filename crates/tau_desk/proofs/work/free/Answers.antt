@@ -7,7 +7,7 @@ use Rattle.tau_shard.specs.Plain.{PlainShard}
 use Rattle.tau_shard.specs.Read.{shard_of}
 use Rattle.tau_machine.specs.Hands.{Freeing}
 use Rattle.tau_machine.specs.Events.{Free}
-use Rattle.tau_machine.specs.Shard.{Shard, entry_in, shard_freed}
+use Rattle.tau_shard.specs.Shard.{Shard, entry_in, shard_freed}
 use Rattle.tau_machine.specs.Worker.{hand_freed, hand_joined}
 use Rattle.tau_proc.specs.declared.proc.Proc.{Proc}
 use Rattle.tau_txn.specs.declared.action.Action.TheVariants as action

@@ -4,7 +4,7 @@ use Rattle.tau_shard.specs.Read.{shard_of}
 use Rattle.tau_machine.specs.Events.{Lock, Busy, Conflicts}
 use Rattle.tau_machine.specs.Hands.{Hand}
 use Rattle.tau_machine.specs.Worker.{Worker, settled, hand_busy}
-use Rattle.tau_machine.specs.Shard.{Shard, entry_in}
+use Rattle.tau_shard.specs.Shard.{Shard, entry_in}
 use Rattle.tau_base.specs.Shards.{shard_number}
 use Rattle.tau_shard.specs.Plain.{PlainShard}
 use Rattle.tau_proc.specs.declared.proc.Proc.{Proc}

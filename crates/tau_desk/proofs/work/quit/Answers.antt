@@ -6,7 +6,7 @@ use Rattle.tau_shard.specs.Plain.{PlainShard}
 use Rattle.tau_shard.specs.Read.{shard_of}
 use Rattle.tau_machine.specs.Events.{Quit}
 use Rattle.tau_machine.specs.Hands.{Hand}
-use Rattle.tau_machine.specs.Shard.{Shard, entry_in}
+use Rattle.tau_shard.specs.Shard.{Shard, entry_in}
 use Rattle.tau_machine.specs.Worker.{Worker, hand_quit, settled}
 use Rattle.tau_proc.specs.declared.proc.Proc.{Proc}
 use Rattle.tau_txn.specs.declared.action.Action.TheVariants as action

@@ -1,6 +1,6 @@
 use Rattle.std.proofs.Common.{◌≡◌, ℕ, false, Bool, ap, subst, ◌∙◌}
 use Rattle.std.specs.Prelude.{IfSome, IfNone}
-use Rattle.tau_machine.specs.Shard.{at}
+use Rattle.tau_shard.specs.Shard.{at}
 use Rattle.tau_shard.specs.Read.{bits, entry_of}
 use Rattle.tau_shard.specs.Blocks.{blocks, IsLeast}
 use Rattle.tau_shard.proofs.Masks.{blocks_by}

@@ -1,6 +1,6 @@
 use Rattle.std.proofs.Common.{ap, ◌∙◌}
 use Rattle.std.specs.Prelude.{Some}
-use Rattle.tau_machine.specs.Shard.{Entry, held_as}
+use Rattle.tau_shard.specs.Shard.{Entry, held_as}
 use Rattle.tau_shard.proofs.Masks.{nobody_new}
 use Rattle.tau_shard.proofs.entry.first_held.Goals as goal
 

@@ -1,6 +1,6 @@
 use Rattle.std.proofs.Common.{ap, ◌∙◌}
 use Rattle.tau_base.specs.Vectors.{join}
-use Rattle.tau_machine.specs.Shard.{Entry}
+use Rattle.tau_shard.specs.Shard.{Entry}
 use Rattle.tau_shard.proofs.entry.release_read.Goals as goal
 
 pub returns : goal.returns

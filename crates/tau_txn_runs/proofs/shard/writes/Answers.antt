@@ -1,6 +1,6 @@
 use Rattle.std.proofs.Common.{ap, ◌∙◌, refl}
 use Rattle.tau_base.specs.declared.value.Mode.TheVariants.{Write}
-use Rattle.tau_machine.specs.Shard.{Shard, entry_in}
+use Rattle.tau_shard.specs.Shard.{Shard, entry_in}
 use Rattle.tau_shard.specs.Read.{shard_of}
 use Rattle.tau_shard.proofs.Bridge.{locked_held}
 use Rattle.tau_txn_runs.proofs.shard.writes.Goals as goal

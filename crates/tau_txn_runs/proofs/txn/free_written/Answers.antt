@@ -1,7 +1,7 @@
 use Rattle.std.proofs.Common.{◌≡◌, refl, sym, subst}
 use Rattle.std.specs.Prelude.{Some, IsSome}
 use Rattle.tau_base.specs.declared.value.Mode.TheVariants.{Write}
-use Rattle.tau_machine.specs.Shard.{Shard, entry_in}
+use Rattle.tau_shard.specs.Shard.{Shard, entry_in}
 use Rattle.tau_shard.specs.Read.{shard_of}
 use Rattle.tau_txn.proofs.Blocked.{holds_written}
 use Rattle.tau_txn_runs.proofs.txn.free_written.Goals as goal

@@ -1,6 +1,6 @@
 use Rattle.std.proofs.Common.{sym, subst}
 use Rattle.std.specs.Prelude.{IsSome}
-use Rattle.tau_machine.specs.Shard.{Shard, entry_in}
+use Rattle.tau_shard.specs.Shard.{Shard, entry_in}
 use Rattle.tau_shard.specs.Read.{shard_of}
 use Rattle.tau_txn.proofs.Blocked.{holds_some}
 use Rattle.tau_txn_runs.proofs.txn.give_back.Goals as goal

@@ -1,5 +1,5 @@
 use Rattle.std.proofs.Common.{List, ℕ, subst, sym, ap, ◌∙◌}
-use Rattle.tau_machine.specs.Shard.{Dropped}
+use Rattle.tau_shard.specs.Shard.{Dropped}
 use Rattle.tau_shard.specs.Plain.{PlainShard}
 use Rattle.tau_shard.specs.Read.{shard_of}
 use Rattle.tau_rule.specs.Rule.{manager_role}

@@ -1,5 +1,5 @@
 use Rattle.std.proofs.Common.{ℕ, List, ◌≡◌, ◌≤◌, length, sym, subst}
-use Rattle.tau_machine.specs.Shard.{Dropped}
+use Rattle.tau_shard.specs.Shard.{Dropped}
 use Rattle.tau_shard.specs.Plain.{PlainShard}
 use Rattle.tau_shard.specs.Read.{shard_of}
 use Rattle.tau_shard.specs.Blocks.{Placed}

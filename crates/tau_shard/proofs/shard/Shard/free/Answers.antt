@@ -1,6 +1,6 @@
 use Rattle.std.proofs.Common.{sym, ap, ◌∙◌, Option}
 use Rattle.tau_base.specs.declared.value.Value.{Value}
-use Rattle.tau_machine.specs.Shard.{shard_freed}
+use Rattle.tau_shard.specs.Shard.{shard_freed}
 use Rattle.tau_shard.specs.Read.{shard_of}
 use Rattle.tau_shard.proofs.shard.Shard.free.Goals as goal
 

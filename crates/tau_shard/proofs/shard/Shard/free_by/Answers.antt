@@ -1,7 +1,7 @@
 use Rattle.std.proofs.Common.{[], ◌∷◌, sym, ap, ◌∙◌, refl}
 use Rattle.std.specs.Option.{option_copied}
 use Rattle.tau_base.specs.Database.{written}
-use Rattle.tau_machine.specs.Shard.{Shard, shard_freed}
+use Rattle.tau_shard.specs.Shard.{Shard, shard_freed}
 use Rattle.tau_shard.specs.Read.{shard_of}
 use Rattle.tau_shard.proofs.shard.Shard.free_by.Goals as goal
 

@@ -6,7 +6,7 @@ use Rattle.indexmap.specs.IndexMap.{get, with_value_at}
 use Rattle.tau_base.specs.declared.value.Key.{Key}
 use Rattle.tau_base.specs.declared.value.Value.TheVariants.{Absent}
 use Rattle.tau_base.specs.Vectors.{join}
-use Rattle.tau_machine.specs.Shard.{Entry, held_as, shard_freed}
+use Rattle.tau_shard.specs.Shard.{Entry, held_as, shard_freed}
 use Rattle.tau_shard.specs.declared.entry.LockEntry.{LockEntry}
 use Rattle.tau_shard.specs.Plain.{PlainShard}
 use Rattle.tau_shard.specs.Read.{is_key, entry_of, shard_of}

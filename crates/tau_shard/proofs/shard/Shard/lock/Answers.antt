@@ -1,5 +1,5 @@
 use Rattle.std.proofs.Common.{ap, ◌∙◌}
-use Rattle.tau_machine.specs.Shard.{Shard}
+use Rattle.tau_shard.specs.Shard.{Shard}
 use Rattle.tau_shard.proofs.shard.Shard.lock.Goals as goal
 
 pub returns-clause-value : goal.returns-clause-value

@@ -5,7 +5,7 @@ use Rattle.std.proofs.Math.Path.{fun_ext}
 use Rattle.indexmap.specs.IndexMap.{get, with_value_at}
 use Rattle.tau_base.specs.declared.value.Key.{Key}
 use Rattle.tau_base.specs.Database.{Db, db_of}
-use Rattle.tau_machine.specs.Shard.{Entry, entry_or, entry_in, held_as, shard_locked}
+use Rattle.tau_shard.specs.Shard.{Entry, entry_or, entry_in, held_as, shard_locked}
 use Rattle.tau_shard.specs.declared.entry.LockEntry.{LockEntry}
 use Rattle.tau_shard.specs.Plain.{PlainShard}
 use Rattle.tau_shard.specs.Read.{is_key, entry_of, entry_option, shard_of}

@@ -1,5 +1,5 @@
 use Rattle.std.proofs.Common.{sym, ap, ◌∙◌}
-use Rattle.tau_machine.specs.Shard.{Entry}
+use Rattle.tau_shard.specs.Shard.{Entry}
 use Rattle.tau_shard.specs.Read.{shard_of}
 use Rattle.tau_shard.proofs.Puts.{first_writes}
 use Rattle.tau_shard.proofs.shard.Shard.lock_new.Goals as goal

@@ -5,7 +5,7 @@ use Rattle.std.specs.Map.{lookup}
 use Rattle.indexmap.specs.IndexMap.{get}
 use Rattle.tau_base.specs.declared.value.Key.{Key}
 use Rattle.tau_base.specs.declared.value.Value.TheVariants.{Absent}
-use Rattle.tau_machine.specs.Shard.{put_entry}
+use Rattle.tau_shard.specs.Shard.{put_entry}
 use Rattle.tau_shard.specs.Plain.{PlainShard}
 use Rattle.tau_shard.specs.Read.{is_key, entry_of, shard_of}
 use Rattle.tau_shard.proofs.Puts.{put_shard, placed_put}

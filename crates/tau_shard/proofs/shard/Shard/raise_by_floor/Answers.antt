@@ -1,6 +1,6 @@
 use Rattle.std.proofs.Common.{ap, ◌∙◌}
 use Rattle.std.specs.Prelude.{None}
-use Rattle.tau_machine.specs.Shard.{entry_or}
+use Rattle.tau_shard.specs.Shard.{entry_or}
 use Rattle.tau_shard.specs.Plain.{PlainShard}
 use Rattle.tau_shard.specs.Blocks.{dep_locked}
 use Rattle.tau_shard.proofs.Puts.{by_floor}

@@ -2,7 +2,7 @@ use Rattle.std.proofs.Common.{sym, ap, subst, ◌∙◌}
 use Rattle.std.specs.Prelude.{Some, OnOk, IfErr}
 use Rattle.tau_base.specs.declared.value.Mode.{Mode}
 use Rattle.tau_proc.specs.Progress.{next_want}
-use Rattle.tau_machine.specs.Shard.{entry_in}
+use Rattle.tau_shard.specs.Shard.{entry_in}
 use Rattle.tau_shard.specs.Blocks.{RefusedBy, dep_locked}
 use Rattle.tau_shard.specs.Read.{shard_of}
 use Rattle.tau_txn.specs.Locked.{HandLocked, RunsOn}

@@ -2,7 +2,7 @@ use Rattle.std.proofs.Common.{◌≡◌, ℕ, List, sym, ap, subst, ◌∙◌}
 use Rattle.tau_base.specs.declared.value.Mode.TheVariants as mode
 use Rattle.tau_proc.specs.Progress.{next_want}
 use Rattle.tau_machine.specs.Hands.{hold}
-use Rattle.tau_machine.specs.Shard.{Shard, entry_in}
+use Rattle.tau_shard.specs.Shard.{Shard, entry_in}
 use Rattle.tau_shard.specs.Blocks.{dep_locked}
 use Rattle.tau_shard.specs.Read.{shard_of}
 use Rattle.tau_txn.specs.Hand.{PlainHand}

@@ -1,6 +1,6 @@
 use Rattle.std.proofs.Common.{◌≡◌, [], false, length, sym, ap, subst, ◌∙◌}
 use Rattle.std.specs.Prelude.{Bool, Some, OnOk, OnErr}
-use Rattle.tau_machine.specs.Shard.{entry_in}
+use Rattle.tau_shard.specs.Shard.{entry_in}
 use Rattle.tau_shard.specs.Blocks.{dep_locked}
 use Rattle.tau_shard.specs.Read.{shard_of}
 use Rattle.tau_txn.specs.Kept.{KeepsHand, keeps_in, kept}

@@ -1,11 +1,11 @@
 -- Functions that are changed at one place, and shards that are changed at one key.
-use Rattle.std.proofs.Common.{ℕ, ◌<◌, false, ◌≡◌, inl, inr, refl, sym, ap, subst, ◌∙◌}
+use Rattle.std.proofs.Common.{ℕ, false, ◌≡◌, ◌⊎◌, inl, inr, refl, sym, ap, subst, ◌∙◌}
 use Rattle.std.proofs.Math.Path.{fun_ext}
-use Rattle.std.proofs.lemmas.Bool.{eq-eqb, ne_eqb, cases_eq}
+use Rattle.std.proofs.lemmas.Bool.{eq-eqb, ne_eqb, cases_eq, cases_Bool}
 use Rattle.tau_base.specs.declared.value.Key.{Key}
 use Rattle.tau_base.specs.Database.{same_key}
-use Rattle.tau_base.proofs.Keys.{same_key_itself}
-use Rattle.tau_machine.specs.Shard.{at, Entry, Shard, entry_in, put_entry}
+use Rattle.tau_base.proofs.Keys.{same_key_itself, same_key_is}
+use Rattle.tau_shard.specs.Shard.{at, Entry, Shard, entry_in, put_entry}
 
 pub at_same : {A : Type 0} (i : ℕ) (a : A) (f : ℕ → A) → at i a f i ≡ a
 at_same i a f = rw (eq-eqb i i refl) refl
@@ -41,3 +41,7 @@ entry_same sh x e = rw (same_key_itself x) refl
 
 pub entry_other : (sh : Shard) (x y : Key) (e : Entry) → same_key y x ≡ false → entry_in (put_entry sh x e) y ≡ entry_in sh y
 entry_other sh x y e ne = rw ne refl
+
+-- a key is another one or not
+pub cases_key : (y x : Key) → (y ≡ x) ⊎ (same_key y x ≡ false)
+cases_key y x = elim (cases_Bool (same_key y x)) [ inl e ↦ inl (same_key_is y x e) | inr e ↦ inr e ]
