@@ -202,11 +202,29 @@ impl Calls {
         ensures { IfOk result (λ copy. copy ≡ self.now) }
     {
         let mut kept = Vec::with_capacity(alloc, self.kept.len())?;
-        for call in &self.kept {
-            kept.push(call.copied(alloc)?)?;
-        }
+        put_copies(alloc, self.kept.as_slice(), &mut kept)?;
         Ok(Calls { alloc, kept })
     }
+}
+
+/// Puts the same calls again into an empty list.
+fn put_copies(alloc: Global, calls: &[KeptCall], kept: &mut Vec<KeptCall>) -> Result<(), NoMemory>
+    requires { kept.old.items ≡ [] }
+    ensures { OnOk result (kept.new.items ≡ calls.now) }
+{
+    for call in calls {
+        put_copy(alloc, call, kept)?;
+    }
+    Ok(())
+}
+
+/// Puts the same call again at the end.
+fn put_copy(alloc: Global, call: &KeptCall, kept: &mut Vec<KeptCall>) -> Result<(), NoMemory>
+    ensures { OnOk result (kept.new.items ≡ kept.old.items ++ call.now ∷ []) }
+{
+    let copy = call.copied(alloc)?;
+    kept.push(copy)?;
+    Ok(())
 }
 
 /// The numbers again.
