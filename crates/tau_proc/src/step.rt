@@ -1,6 +1,7 @@
 //! The steps of procedures.
 ghost use Rattle.std.specs.Prelude.{◌≡◌, IsTrue};
 
+use std::alloc::AllocError;
 use tau_base::Text64;
 
 /// Where a step takes a value from.
@@ -73,7 +74,7 @@ pub enum Compare {
 }
 
 /// A step of a procedure. `into` is a register, `table` a table's number, `row` must have a number.
-#[derive(Clone, Debug, Default, Drop, PartialEq, Eq)]
+#[derive(Debug, Default, Drop, PartialEq, Eq)]
 pub enum Step {
     /// The register becomes the row's value.
     Get {
@@ -216,6 +217,19 @@ impl Step {
     pub(crate) fn is_same(&self, other: &Step) -> bool
         ensures { IsTrue result → self.now ≡ other.now }
     {
+        match self {
+            Step::Get { .. } | Step::Put { .. } | Step::Del { .. } => self.is_same_access(other),
+            Step::Add { .. } | Step::Sub { .. } | Step::Mul { .. } => self.is_same_sum(other),
+            Step::Min { .. } | Step::Max { .. } | Step::Cat { .. } => self.is_same_union(other),
+            Step::Need { .. } | Step::When { .. } => self.is_same_test(other),
+            Step::Done | Step::Reply(_) => self.is_same_end(other),
+        }
+    }
+
+    /// Whether both are the same step on a row.
+    fn is_same_access(&self, other: &Step) -> bool
+        ensures { IsTrue result → self.now ≡ other.now }
+    {
         match (self, other) {
             (
                 Step::Get { into, table, row },
@@ -236,6 +250,15 @@ impl Step {
             (Step::Del { table, row }, Step::Del { table: t, row: r }) => {
                 table == t && row.is_same(r)
             }
+            _ => false,
+        }
+    }
+
+    /// Whether both are the same sum, difference or product.
+    fn is_same_sum(&self, other: &Step) -> bool
+        ensures { IsTrue result → self.now ≡ other.now }
+    {
+        match (self, other) {
             (
                 Step::Add { into, left, right },
                 Step::Add {
@@ -260,6 +283,15 @@ impl Step {
                     right: r,
                 },
             ) => { into == i && left.is_same(l) && right.is_same(r) }
+            _ => false,
+        }
+    }
+
+    /// Whether both take the same from two values: the smaller, the greater or both texts.
+    fn is_same_union(&self, other: &Step) -> bool
+        ensures { IsTrue result → self.now ≡ other.now }
+    {
+        match (self, other) {
             (
                 Step::Min { into, left, right },
                 Step::Min {
@@ -284,6 +316,15 @@ impl Step {
                     right: r,
                 },
             ) => { into == i && left.is_same(l) && right.is_same(r) }
+            _ => false,
+        }
+    }
+
+    /// Whether both are the same comparison.
+    fn is_same_test(&self, other: &Step) -> bool
+        ensures { IsTrue result → self.now ≡ other.now }
+    {
+        match (self, other) {
             (
                 Step::Need { left, how, right },
                 Step::Need {
@@ -300,9 +341,28 @@ impl Step {
                     right: r,
                 },
             ) => { how == h && left.is_same(l) && right.is_same(r) }
+            _ => false,
+        }
+    }
+
+    /// Whether both end a `When`, or give the same reply.
+    fn is_same_end(&self, other: &Step) -> bool
+        ensures { IsTrue result → self.now ≡ other.now }
+    {
+        match (self, other) {
             (Step::Done, Step::Done) => true,
             (Step::Reply(value), Step::Reply(v)) => value.is_same(v),
             _ => false,
         }
+    }
+}
+
+impl Clone for Step {
+    ghost is_clone = { λ a b. b ≡ a };
+
+    ghost is_infallible = { λ _. Unit {0} };
+
+    fn clone(&self) -> Result<Step, AllocError> {
+        Ok(self.copied())
     }
 }
