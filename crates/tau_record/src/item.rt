@@ -99,8 +99,22 @@ fn write_of(last: Option<Key>, bytes: &[u8]) -> Result<((Key, Value), &[u8]), Fi
     Ok(((key, value), rest))
 }
 
+/// The whole number at the front of the bytes, if there is one.
+#[tactic(auto, unfolding(crate::specs::Item::value_at))]
+fn int_of(bytes: &[u8]) -> Option<(i64, &[u8])>
+    ensures { IfSome result (λ x. value_at bytes.now ≡ Ok (Int x.0, x.1.now)) }
+{
+    let [kind::INT, rest @ ..] = bytes else {
+        return None;
+    };
+    match u64_of(rest) {
+        Ok((number, rest)) => Some((number.cast_signed(), rest)),
+        Err(_) => None,
+    }
+}
+
 /// The write of a whole number at the front of the bytes, if there is one.
-#[tactic(auto, unfolding(crate::specs::Item::write_at, crate::specs::Item::value_at))]
+#[tactic(auto, unfolding(crate::specs::Item::write_at))]
 fn number_of(last: Option<Key>, bytes: &[u8]) -> Option<((Key, i64), &[u8])>
     ensures { IfSome result (λ x. write_at last bytes.now ≡ Ok ((x.0.0, Int x.0.1), x.1.now)) }
 {
@@ -110,13 +124,10 @@ fn number_of(last: Option<Key>, bytes: &[u8]) -> Option<((Key, i64), &[u8])>
     if !is_behind(last, key) {
         return None;
     }
-    let [kind::INT, rest @ ..] = rest else {
-        return None;
-    };
-    let Ok((number, rest)) = u64_of(rest) else {
-        return None;
-    };
-    Some(((key, number.cast_signed()), rest))
+    match int_of(rest) {
+        Some((number, rest)) => Some(((key, number), rest)),
+        None => None,
+    }
 }
 
 /// Reads so many writes, if they are few and of whole numbers.
@@ -192,7 +203,6 @@ fn put_any<'a>(
 }
 
 /// Reads an argument, and puts it after those before it.
-#[tactic(auto, unfolding(crate::specs::Item::value_at))]
 fn put_arg<'a>(
     bytes: &'a [u8],
     args: &mut ArrayVec<Value, MAX_ARGS>,
@@ -200,13 +210,12 @@ fn put_arg<'a>(
     requires { length args.old.items < MAX_ARGS }
     ensures { Adds (λ x. x.now) result (value_at bytes.now) args.old.items args.new.items }
 {
-    match bytes {
-        [kind::INT, rest @ ..] => {
-            let (number, rest) = u64_of(rest)?;
-            args.push(Value::Int(number.cast_signed()));
+    match int_of(bytes) {
+        Some((number, rest)) => {
+            args.push(Value::Int(number));
             Ok(rest)
         }
-        _ => put_any(bytes, args),
+        None => put_any(bytes, args),
     }
 }
 
