@@ -10,7 +10,9 @@ use crate::fault::{LineRefusal, TextCause};
 use crate::heads::{Head, StepHead};
 use crate::lines::{first_word, next_word, no_more};
 use crate::load::Turn;
-use crate::spelled::{compare, count, known_table, new_proc, new_table, operand, register, turn};
+use crate::spelled::{
+    compare, count, is_same, known_table, new_proc, new_table, operand, register, turn,
+};
 use tau_base::{
     Listed, MAX_ARGS, MAX_CATALOGUE, MAX_PROCS, MAX_STEPS, MAX_TABLES, MAX_TURNS, Name,
 };
@@ -226,21 +228,21 @@ pub fn depth_at(depth: u32, head: StepHead) -> Result<u32, LineRefusal>
 pub fn head(word: &[u8]) -> Result<Head, LineRefusal>
     ensures { Gives (λ x. x) result (head word.now) }
 {
-    if word == b"table".as_slice() {
+    if is_same(word, b"table") {
         Ok(Head::Table)
-    } else if word == b"proc".as_slice() {
+    } else if is_same(word, b"proc") {
         Ok(Head::Proc)
-    } else if word == b"put".as_slice() {
+    } else if is_same(word, b"put") {
         Ok(Head::Put)
-    } else if word == b"add".as_slice() {
+    } else if is_same(word, b"add") {
         Ok(Head::Add)
-    } else if word == b"get".as_slice() {
+    } else if is_same(word, b"get") {
         Ok(Head::Get)
-    } else if word == b"del".as_slice() {
+    } else if is_same(word, b"del") {
         Ok(Head::Del)
-    } else if word == b"call".as_slice() {
+    } else if is_same(word, b"call") {
         Ok(Head::Call)
-    } else if word == b"turns".as_slice() {
+    } else if is_same(word, b"turns") {
         Ok(Head::Turns)
     } else {
         Err(LineRefusal::Cause(TextCause::UnknownWord))
@@ -252,33 +254,33 @@ pub fn head(word: &[u8]) -> Result<Head, LineRefusal>
 pub fn step_head(word: &[u8]) -> Result<StepHead, LineRefusal>
     ensures { Gives (λ x. x) result (step_head word.now) }
 {
-    if word == b"get".as_slice() {
+    if is_same(word, b"get") {
         Ok(StepHead::Get)
-    } else if word == b"put".as_slice() {
+    } else if is_same(word, b"put") {
         Ok(StepHead::Put)
-    } else if word == b"del".as_slice() {
+    } else if is_same(word, b"del") {
         Ok(StepHead::Del)
-    } else if word == b"add".as_slice() {
+    } else if is_same(word, b"add") {
         Ok(StepHead::Add)
-    } else if word == b"sub".as_slice() {
+    } else if is_same(word, b"sub") {
         Ok(StepHead::Sub)
-    } else if word == b"mul".as_slice() {
+    } else if is_same(word, b"mul") {
         Ok(StepHead::Mul)
-    } else if word == b"min".as_slice() {
+    } else if is_same(word, b"min") {
         Ok(StepHead::Min)
-    } else if word == b"max".as_slice() {
+    } else if is_same(word, b"max") {
         Ok(StepHead::Max)
-    } else if word == b"cat".as_slice() {
+    } else if is_same(word, b"cat") {
         Ok(StepHead::Cat)
-    } else if word == b"need".as_slice() {
+    } else if is_same(word, b"need") {
         Ok(StepHead::Need)
-    } else if word == b"when".as_slice() {
+    } else if is_same(word, b"when") {
         Ok(StepHead::When)
-    } else if word == b"done".as_slice() {
+    } else if is_same(word, b"done") {
         Ok(StepHead::Done)
-    } else if word == b"reply".as_slice() {
+    } else if is_same(word, b"reply") {
         Ok(StepHead::Reply)
-    } else if word == b"end".as_slice() {
+    } else if is_same(word, b"end") {
         Ok(StepHead::End)
     } else {
         Err(LineRefusal::Cause(TextCause::UnknownWord))

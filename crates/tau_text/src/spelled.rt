@@ -244,7 +244,7 @@ fn same_bytes(name: &[u8], word: &[u8]) -> bool
 
 /// Whether a name is this word. Names are short, so that their bytes are compared with no call.
 #[inline(always)]
-fn is_same(name: &[u8], word: &[u8]) -> bool
+pub fn is_same(name: &[u8], word: &[u8]) -> bool
     ensures { result ≡ bytes_eq name.now word.now }
 {
     same_bytes(name, word)
@@ -398,17 +398,17 @@ pub fn operand(count: u8, word: &[u8]) -> Result<Operand, LineRefusal>
 pub fn compare(word: &[u8]) -> Result<Compare, LineRefusal>
     ensures { Gives (λ x. x) result (compare word.now) }
 {
-    if word == b"=".as_slice() {
+    if is_same(word, b"=") {
         Ok(Compare::Equal)
-    } else if word == b"!=".as_slice() {
+    } else if is_same(word, b"!=") {
         Ok(Compare::NotEqual)
-    } else if word == b"<".as_slice() {
+    } else if is_same(word, b"<") {
         Ok(Compare::Less)
-    } else if word == b"<=".as_slice() {
+    } else if is_same(word, b"<=") {
         Ok(Compare::AtMost)
-    } else if word == b">".as_slice() {
+    } else if is_same(word, b">") {
         Ok(Compare::Greater)
-    } else if word == b">=".as_slice() {
+    } else if is_same(word, b">=") {
         Ok(Compare::AtLeast)
     } else {
         Err(LineRefusal::Cause(TextCause::BadStep))
