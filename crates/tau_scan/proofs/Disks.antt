@@ -5,7 +5,8 @@ use Rattle.std.proofs.Math.ListN.{set}
 use Rattle.std.proofs.lemmas.Bool.{cases_eq}
 use Rattle.std.proofs.lemmas.List.{length-append, length-set}
 use Rattle.tau_disk.proofs.Passing.{passes_none}
-use Rattle.tau_disk.specs.Used.{Each}
+use Rattle.tau_disk.specs.Disk.{Rose}
+use Rattle.tau_disk.specs.Used.{Each, RoseAt}
 use Rattle.tau_scan.specs.Outside.{IsRead}
 use Rattle.tau_base.proofs.Logic.{some_is}
 use Rattle.tau_base.proofs.Lists.{get_set_same, get_set_other}
@@ -69,3 +70,7 @@ module _ {D : Type 0} (tells : Type 0) (seen : D → List ℕ) (may_leave : D �
     count = omega (arith, length-append images (image ∷ []), g.count);
     many = length-set new n e ∙ g.many;
   }
+
+  -- the disk at an index was read, and its count of faults rose
+  pub rose_there : (old new : List D) (n : ℕ) (images : List (List ℕ)) (d e : D) → IsReading old new n images → n < length new → slice_get new n ≡ Some d → Rose (faults d) (faults e) → RoseAt faults old (set new n e) n
+  rose_there old new n images d e g lt here rose = (d, e, sym (g.rest n (omega arith)) ∙ here, get_set_same new n e lt, rose)

@@ -4,7 +4,7 @@ use Rattle.std.specs.Prelude.{Some, slice_get}
 use Rattle.std.proofs.Math.ListN.{set}
 use Rattle.std.proofs.lemmas.Bool.{cases_eq}
 use Rattle.std.proofs.lemmas.Bool.Decides.{leb_tells}
-use Rattle.tau_disk.specs.Used.{GoesOn, AllCalls, IsStopped}
+use Rattle.tau_disk.specs.Used.{GoesOn, AllCalls, IsStopped, IsFirstStopped}
 use Rattle.tau_disk.specs.Disk.{WasToFail, WasRefused}
 use Rattle.tau_scan.specs.Outside.{calls_to_read}
 use Rattle.tau_base.proofs.Logic.{some_is}
@@ -83,3 +83,10 @@ module _ {D : Type 0} (number : D → ℕ) (fails : D → ℕ → Bool) where
       calls = one_more (AllCalls tells number fails short calls_to_read) old new n d e g.rest g.calls low here calls;
       rest = λ k le. get_set_other new n k e (λ same. omega (arith, le, same)) ∙ g.rest k (omega (arith, le));
     }
+
+    -- the disk at an index stopped
+    pub stopped_there : (old new : List D) (n : ℕ) (d e : D) → IsGoing old new n → n < length new → slice_get new n ≡ Some d → tells → IsStopped tells number fails short d e → IsFirstStopped tells number fails short old (set new n e) n
+    stopped_there old new n d e g low here t stop = (
+      (d, e, sym (g.rest n (omega arith)) ∙ here, get_set_same new n e low, stop),
+      λ j b lt was. (let f = g.went j b lt was in (f.0, get_set_other new n j e (λ same. omega (arith, lt, same)) ∙ f.1, λ told. (f.2 told).clean)),
+    )

@@ -20,11 +20,15 @@ fn read_image<D: Disk>(alloc: Global, disk: &mut D, stream: u8) -> Result<Vec<u8
     ensures calls { OnOk result (AllCalls D.tells D.number D.fails D.short calls_to_read disk.old disk.new) }
     ensures stopped { (j : ℕ) → result ≡ Err (ReadRefusal.Failed j) → IsStopped D.tells D.number D.fails D.short disk.old disk.new }
 {
-    let length = disk.len().map_err(|_| ReadRefusal::Failed { stream })?;
+    let length = match disk.len() {
+        Ok(length) => length,
+        Err(_) => return Err(ReadRefusal::Failed { stream }),
+    };
     let mut image = zeros(alloc, length as usize)?;
-    disk.read_at(0, &mut image)
-        .map_err(|_| ReadRefusal::Failed { stream })?;
-    Ok(image)
+    match disk.read_at(0, &mut image) {
+        Ok(()) => Ok(image),
+        Err(_) => Err(ReadRefusal::Failed { stream }),
+    }
 }
 
 /// So many zeros.

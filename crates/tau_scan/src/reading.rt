@@ -4,7 +4,7 @@ ghost use Rattle.std.specs.List.{All, AllZip};
 ghost use Rattle.tau_base.specs.declared.limits.TheConstants.{MAX_STREAMS};
 ghost use Rattle.tau_base.specs.Modes.{most_streams};
 ghost use Rattle.tau_scan.specs.declared.fault.LogFault.{LogFault};
-ghost use Rattle.tau_scan.specs.Reading.{catalogue_of, asked_format, contents_of, declared_by, recorded, records_of, streams_of, declared_in, log_as, log_of, log_read, Gives, HasRead, IsReading, IsLog};
+ghost use Rattle.tau_scan.specs.Reading.{catalogue_of, asked_format, contents_of, declared_by, recorded, records_of, streams_of, declared_in, log_as, log_of, log_of_contents, log_read, Gives, HasRead, IsReading, IsLog};
 ghost use Rattle.tau_scan.specs.Found.{Found, FoundAs, IsShort};
 ghost use Rattle.tau_scan.specs.Contents.{bytes_in, AreContents, IsLogOf, HasContents};
 ghost use Rattle.tau_disk.specs.Stages.{AreLengths};
@@ -84,6 +84,28 @@ fn declarations_of(alloc: Global, streams: &[Listed<Placed>]) -> Result<Declarat
     }
 }
 
+/// The log of these contents.
+fn log_of_contents(alloc: Global, format: Format, contents: &[Content]) -> Result<Log, LogRefusal>
+    requires low { 1 ≤ length contents.now }
+    requires high { length contents.now ≤ MAX_STREAMS }
+    requires room { length contents.now ≤ most_streams format }
+    ensures same { Found result (log_of_contents format (bytes_in contents.now)) }
+    ensures sound { IfOk result (λ log. IsLog log) }
+    ensures theirs { IfOk result (λ log. IsLogOf format contents.now log) }
+{
+    let streams = streams_in(alloc, format, contents)?;
+    let declarations = declarations_of(alloc, streams.as_slice())?;
+    one_vector_each(alloc, streams.as_slice())?;
+    match lengths_of(contents) {
+        Some(elv) => Ok(Log {
+            elv,
+            declarations,
+            streams,
+        }),
+        None => Err(LogRefusal::NoMemory),
+    }
+}
+
 /// The log of these images, of which those that are born are of this format, and their contents.
 fn log_as(
     alloc: Global,
@@ -100,20 +122,8 @@ fn log_as(
     ensures theirs { IfOk result (λ r. IsLogOf format r.1 r.0) }
 {
     let contents = contents_in(alloc, format, images)?;
-    let streams = streams_in(alloc, format, contents.as_slice())?;
-    let declarations = declarations_of(alloc, streams.as_slice())?;
-    one_vector_each(alloc, streams.as_slice())?;
-    match lengths_of(contents.as_slice()) {
-        Some(elv) => Ok((
-            Log {
-                elv,
-                declarations,
-                streams,
-            },
-            contents,
-        )),
-        None => Err(LogRefusal::NoMemory),
-    }
+    let log = log_of_contents(alloc, format, contents.as_slice())?;
+    Ok((log, contents))
 }
 
 /// The log of these images, if this format is asked, or none, and their contents.

@@ -2,8 +2,11 @@
 use Rattle.std.proofs.Common.{ℕ, List, ◌+◌, ◌<◌, ◌∙◌, length, get_or, sym, subst, arith}
 use Rattle.std.proofs.Math.ListN.{set}
 use Rattle.std.proofs.lemmas.Option.{slice_get-get_or}
-use Rattle.tau_scan.proofs.Disks.{IsReading, reading_on, each_on}
-use Rattle.tau_scan.proofs.Plans.{going_on}
+use Rattle.std.proofs.lemmas.Result.{err_from_is_err_and}
+use Rattle.tau_disk.specs.Used.{RoseAt, IsFirstStopped}
+use Rattle.tau_scan.proofs.Disks.{IsReading, reading_on, each_on, rose_there}
+use Rattle.tau_scan.proofs.Plans.{going_on, stopped_there}
+use Rattle.tau_scan.proofs.Settling.{failed_is}
 use Rattle.tau_scan.proofs.read.read_images.Goals as goal
 
 pub loop-j-preserved : goal.loop-j-preserved
@@ -25,3 +28,28 @@ returns-in_err-push-clause-only_read g c =
     each_on g.D.Disk.tells g.D.Disk.seen g.D.Disk.may_leave g.D.Disk.moment g.D.Disk.may_leave_since g.D.Disk.faults g.D.Disk.number g.D.Disk.fails c.args.disks.now c.loop-j.disks c.loop-j.j c.loop-j.images
     (get_or c.loop-j.disks c.loop-j.j c.index-disks-j.result) c.read_image.new.disk c.loop-j.invariant.reading low
     (slice_get-get_or c.loop-j.disks c.loop-j.j c.index-disks-j.result low) c.read_image.ensures.only_read
+
+pub returns-in_err-image-clause-only_read : goal.returns-in_err-image-clause-only_read
+returns-in_err-image-clause-only_read g c =
+    let low : c.loop-j.j < length c.loop-j.disks = omega (arith, c.loop-j-test.true, c.loop-j.invariant.reading.many) in
+    each_on g.D.Disk.tells g.D.Disk.seen g.D.Disk.may_leave g.D.Disk.moment g.D.Disk.may_leave_since g.D.Disk.faults g.D.Disk.number g.D.Disk.fails c.args.disks.now c.loop-j.disks c.loop-j.j c.loop-j.images
+    (get_or c.loop-j.disks c.loop-j.j c.index-disks-j.result) c.read_image.new.disk c.loop-j.invariant.reading low
+    (slice_get-get_or c.loop-j.disks c.loop-j.j c.index-disks-j.result low) c.read_image.ensures.only_read
+
+pub returns-in_err-image-clause-failed : goal.returns-in_err-image-clause-failed
+returns-in_err-image-clause-failed g c j e =
+    let low : c.loop-j.j < length c.loop-j.disks = omega (arith, c.loop-j-test.true, c.loop-j.invariant.reading.many) in
+    let p = err_from_is_err_and c.from_residual.result c.from_residual.ensures.1 in
+    let (is, rose) = c.in_err-image.ensures.failed j (failed_is c.from_residual.result p.0 c.in_err-image.field-0.0 j p.1 p.2 e) in
+    subst (λ (i : ℕ). RoseAt g.D.Disk.faults c.args.disks.now (set c.loop-j.disks c.loop-j.j c.read_image.new.disk) i) (sym is)
+    (rose_there g.D.Disk.tells g.D.Disk.seen g.D.Disk.may_leave g.D.Disk.moment g.D.Disk.may_leave_since g.D.Disk.faults g.D.Disk.number g.D.Disk.fails c.args.disks.now c.loop-j.disks c.loop-j.j c.loop-j.images
+    (get_or c.loop-j.disks c.loop-j.j c.index-disks-j.result) c.read_image.new.disk c.loop-j.invariant.reading low (slice_get-get_or c.loop-j.disks c.loop-j.j c.index-disks-j.result low) rose)
+
+pub returns-in_err-image-clause-stopped : goal.returns-in_err-image-clause-stopped
+returns-in_err-image-clause-stopped g c j e t =
+    let low : c.loop-j.j < length c.loop-j.disks = omega (arith, c.loop-j-test.true, c.loop-j.invariant.reading.many) in
+    let p = err_from_is_err_and c.from_residual.result c.from_residual.ensures.1 in
+    let here = failed_is c.from_residual.result p.0 c.in_err-image.field-0.0 j p.1 p.2 e in
+    subst (λ (i : ℕ). IsFirstStopped g.D.Disk.tells g.D.Disk.number g.D.Disk.fails g.D.Disk.short c.args.disks.now (set c.loop-j.disks c.loop-j.j c.read_image.new.disk) i) (sym (c.in_err-image.ensures.failed j here).0)
+    (stopped_there g.D.Disk.number g.D.Disk.fails g.D.Disk.tells g.D.Disk.short c.args.disks.now c.loop-j.disks c.loop-j.j (get_or c.loop-j.disks c.loop-j.j c.index-disks-j.result) c.read_image.new.disk c.loop-j.invariant.going low
+    (slice_get-get_or c.loop-j.disks c.loop-j.j c.index-disks-j.result low) t (c.in_err-image.ensures.stopped j here))
