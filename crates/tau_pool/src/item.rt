@@ -157,6 +157,23 @@ fn room_of_all(streams: &[Listed<Placed>], from: &Lv) -> usize {
     count
 }
 
+/// Puts the taken records of all streams that start at or after the place of their stream, where there are none yet.
+fn put_all(
+    items: &mut Items,
+    from: &Lv,
+    judge: &Judge,
+    streams: &[Listed<Placed>],
+) -> Result<(), NoMemory>
+    requires few { length streams.now ≤ MAX_STREAMS }
+    requires none { items.old ≡ [] }
+    ensures { OnOk result (items.new ≡ items_after from.now (vector_by judge.now) streams.now) }
+{
+    for (j, records) in streams.iter().enumerate() {
+        put_stream(items, from, judge, j as u8, records.as_slice())?;
+    }
+    Ok(())
+}
+
 /// The taken records that start at or after the place of their stream, none of them started.
 pub(crate) fn items_of(
     alloc: Global,
@@ -169,8 +186,6 @@ pub(crate) fn items_of(
 {
     let room = room_of_all(streams, from);
     let mut items = Items::with_room(alloc, room, judge.vector(0).width())?;
-    for (j, records) in streams.iter().enumerate() {
-        put_stream(&mut items, from, judge, j as u8, records.as_slice())?;
-    }
+    put_all(&mut items, from, judge, streams)?;
     Ok(items)
 }
