@@ -19,16 +19,20 @@ use tau_model::{SerialStore, Tables};
 use tau_pool::{Job, Next, Pools};
 use tau_scan::{Log, ReplayRefusal};
 
+/// So many hands with nothing in flight.
+pub fn idle_hands(alloc: Global, many: usize) -> Result<Vec<Option<Job>>, NoMemory>
+    ensures { IfOk result (λ hands. hands.items ≡ replicate many None) }
+{
+    Ok(vec![in alloc; None; many]?)
+}
+
 /// Sixteen workers with nothing in flight, of these pools and this store.
 pub fn workers_of(alloc: Global, pools: Pools, store: SerialStore) -> Result<Replay, NoMemory>
     ensures idle { IfOk result (λ replay. replay.hands.items ≡ replicate MAX_RECOVERY_WORKERS None) }
     ensures pools { IfOk result (λ replay. replay.pools ≡ pools) }
     ensures store { IfOk result (λ replay. database replay.store ≡ database store) }
 {
-    let mut hands = Vec::new(alloc);
-    for _ in 0..MAX_RECOVERY_WORKERS {
-        hands.push(None)?;
-    }
+    let hands = idle_hands(alloc, MAX_RECOVERY_WORKERS)?;
     Ok(Replay {
         pools,
         store,
@@ -137,6 +141,25 @@ fn run_out(log: &Log, replay: &mut Replay) -> Result<(), ReplayRefusal>
 }
 
 /// Rounds of all workers until all is done, and the tables then.
+fn redone(alloc: Global, log: &Log, replay: &mut Replay) -> Result<Tables, ReplayRefusal>
+    ghost course: { Course }
+    requires log { IsLog log.now }
+    requires going { IsOnCourse log.now course replay.old }
+    ensures ok { IfOk result (λ tables. IsRedoneOn log.now course.records course.base tables) }
+    ensures followed { (turns : List ℕ) → FollowedOn log.now course turns replay.old → IfOk result (λ tables. IsRedoneByOn log.now course turns tables) }
+    ensures tangled { (j at : ℕ) → result ≡ Err (ReplayRefusal.Tangled j at) → IsTangledOver course.records j at × ((order : List Kept) → IsOrderOver course.records order → ⊥) }
+{
+    match run_out(log, replay) {
+        Ok(()) => {}
+        Err(refusal) => return Err(refusal),
+    }
+    match replay.store.tables(alloc) {
+        Ok(tables) => Ok(tables),
+        Err(_) => Err(ReplayRefusal::NoMemory),
+    }
+}
+
+/// The same of a recovery that is over then.
 pub fn end(alloc: Global, log: &Log, mut replay: Replay) -> Result<Tables, ReplayRefusal>
     ghost course: { Course }
     requires log { IsLog log.now }
@@ -145,14 +168,7 @@ pub fn end(alloc: Global, log: &Log, mut replay: Replay) -> Result<Tables, Repla
     ensures followed { (turns : List ℕ) → FollowedOn log.now course turns replay → IfOk result (λ tables. IsRedoneByOn log.now course turns tables) }
     ensures tangled { (j at : ℕ) → result ≡ Err (ReplayRefusal.Tangled j at) → IsTangledOver course.records j at × ((order : List Kept) → IsOrderOver course.records order → ⊥) }
 {
-    match run_out(log, &mut replay) {
-        Ok(()) => {}
-        Err(refusal) => return Err(refusal),
-    }
-    match replay.store.tables(alloc) {
-        Ok(tables) => Ok(tables),
-        Err(_) => Err(ReplayRefusal::NoMemory),
-    }
+    redone(alloc, log, &mut replay)
 }
 
 /// Redoes the taken records of a log, by these turns and then in rounds of 16 workers. A turn of a worker finishes the

@@ -13,7 +13,7 @@ ghost use Rattle.tau_replay.specs.Working.{IsSpare};
 use crate::alone::run_alone;
 use crate::cursors::Cursors;
 use crate::lock::Lock;
-use crate::replay::{begin, end};
+use crate::replay::{begin, end, idle_hands};
 use crate::turns::Replay;
 use crate::view::{HANDS, Part, RECORDS, Seat};
 use crate::worker::work;
@@ -144,13 +144,6 @@ fn crew<R: Threads + Wait + Sync, G: Gate + Sync>(
     );
     join_seats(lock, &mut seat, mine);
     seat
-}
-
-/// So many hands with nothing in flight.
-fn idle_hands(alloc: Global, many: usize) -> Result<Vec<Option<Job>>, NoMemory>
-    ensures { IfOk result (λ hands. hands.items ≡ replicate many None) }
-{
-    Ok(vec![in alloc; None; many]?)
 }
 
 /// A recovery of which nothing is in flight, with the hands of workers in threads.

@@ -1,5 +1,5 @@
 -- The course goes on.
 use Rattle.tau_replay.proofs.replay.end.Given as goal
 
-abbrev pub ghost-run_out : goal.ghost-run_out
-ghost-run_out g a = g.course
+abbrev pub ghost-redone : goal.ghost-redone
+ghost-redone g a = g.course

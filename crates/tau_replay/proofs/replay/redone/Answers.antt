@@ -4,7 +4,7 @@ use Rattle.tau_replay.proofs.Following.{over_by}
 use Rattle.tau_model.specs.declared.tables.Tables.{Tables}
 use Rattle.tau_scan.specs.declared.fault.ReplayRefusal.{ReplayRefusal}
 use Rattle.tau_scan.specs.declared.fault.ReplayRefusal.TheVariants.{Tangled}
-use Rattle.tau_replay.proofs.replay.end.Goals as goal
+use Rattle.tau_replay.proofs.replay.redone.Goals as goal
 
 abbrev failed : ReplayRefusal → Result Tables ReplayRefusal
 failed a = Err a
