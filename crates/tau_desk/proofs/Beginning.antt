@@ -31,7 +31,7 @@ use Rattle.tau_rule.proofs.Opening.{begins, limited, now, none_raised}
 use Rattle.tau_desk.proofs.Closing.{word_ends, word_plv}
 use Rattle.tau_desk.specs.Close.{IsBoxOf, IsShardOf}
 use Rattle.tau_desk.specs.Ends.{AreResting}
-use Rattle.tau_desk.specs.Laid.{AreUnbegun, AreFirstWords, EachOf, HasAnchor, HasBox, HasShard, IsFirstAnchor, IsItsStock, IsItsWork, stock_at, work_of}
+use Rattle.tau_desk.specs.Laid.{AreUnbegun, AreFirstWords, AreLaid, EachOf, HasAnchor, HasBox, HasShard, IsFirstAnchor, IsItsStock, IsItsWork, stock_at, work_of}
 use Rattle.tau_desk.specs.Seats.{HasClerk, HasStock, HasWork, IsHead, PlainHead}
 use Rattle.tau_desk.specs.Shares.{PlainStock, PlainWork}
 use Rattle.tau_desk.specs.declared.mark.Mark.{Mark}
@@ -316,6 +316,16 @@ module _ (origin : Plain) (q : Opened origin.load origin) where
           word_stop : word_of origin.load (origin.load.streams + origin.load.streams) (now origin q) ≡ 0
           word_stop = (let e : (origin.load.streams + origin.load.streams == origin.load.streams + origin.load.streams) ≡ true = eq-eqb (origin.load.streams + origin.load.streams) (origin.load.streams + origin.load.streams) refl in
               rw e (ap number_if (none_raised (origin.load.workers + origin.load.streams + 1))))
+
+-- the parts of a core that are laid in slots: how many they are, and that the table begins with them
+pub laid_count : (origin : Plain) → Opened origin.load origin → (parts_in : List (Option Part)) (works : List (Option PlainWork)) (stocks : List (Option PlainStock)) → AreLaid origin.ends origin.shards origin.seats origin.streams parts_in works stocks → length parts_in ≡ part_count origin.load
+laid_count origin q parts_in works stocks l =
+    ap (λ (xs : List (Option Part)). length xs) l.slots_are ∙ slot_count origin q (length origin.ends) q.stands.sound.ends l.shard_slots l.box_slots l.anchor_slots l.have_shards l.have_boxes l.have_anchors
+
+pub laid_begins : (origin : Plain) {style : Style} → Opened origin.load origin → ((j : ℕ) → j < origin.load.streams → slice_index origin.load.opening.ends j ≤ 2 ^ 61) → (parts_in : List (Option Part)) (works : List (Option PlainWork)) (stocks : List (Option PlainStock)) →
+    AreLaid origin.ends origin.shards origin.seats origin.streams parts_in works stocks → (ws : List ℕ) (parts : ℕ) → parts ≡ length parts_in → AreFirstWords parts origin.ends origin.plv ws → Rule origin style (opening ws parts_in (first_view origin))
+laid_begins origin q short parts_in works stocks l ws parts many first =
+    begins_so origin q short (length origin.ends) q.stands.sound.ends l.shard_slots l.box_slots l.anchor_slots l.have_shards l.have_boxes l.have_anchors ws parts_in parts l.slots_are many first
 
 pub all_work : (xs : List PlainSeat) (works : List (Option PlainWork)) → EachOf IsItsWork xs works → (w : ℕ) → slice_get works w ≡ Some None → ⊥
 all_work xs works a w e = (let h = a.each w None e in let bad : None ≡ Some (work_of h.0 h.2.0) = h.2.1 in cc)

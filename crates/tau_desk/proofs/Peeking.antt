@@ -43,6 +43,10 @@ seat_ready origin m w o read seen opened s has =
       agrees = ap (λ (x : Worker). x.hand) (begun_own s.origin.load s.work.worker o there.0 there.1 s.work.shows);
     })
 
+-- the same for the call in its box
+pub ready_of : (origin : Plain) (m : Sat) (w : ℕ) (o : PlainWork) (read : ℕ × List ℕ) (seen : List ℕ) (t : PlainTxn) → m.0.opened ≡ Some origin → IsWorkerSeat m w o read seen → t ≡ o.txn → is_some t.hand ≡ true → IsReady origin w m t
+ready_of origin m w o read seen t opened s same hand = subst (λ (x : PlainTxn). IsReady origin w m x) (sym same) (seat_ready origin m w o read seen opened s (ap (λ (x : PlainTxn). is_some x.hand) (sym same) ∙ hand))
+
 abbrev pub taken_shard : (origin : Plain) (v : Knows) (k : ℕ) (p : Part) (sh : Shard) (key : Key) → k ≡ shard_number key → shard_in p ≡ Some sh → Agrees origin v k p → TakenShard origin v key
 taken_shard origin v k p sh key number is agrees = record { part = p; shard = sh; is = is; agrees = subst (λ (i : ℕ). Agrees origin v i p) number agrees }
 

@@ -1,15 +1,18 @@
 //! The desk opens.
-ghost use Rattle.std.specs.Prelude.{◌≡◌, ◌≤◌, ◌<◌, ◌+◌, ◌*◌, ◌^◌, ◌++◌, [], ℕ, IfOk, Some, length, slice_get, slice_index, vec_len, vec_capacity};
+ghost use Rattle.std.specs.Prelude.{◌≡◌, ◌≤◌, ◌<◌, ◌+◌, ◌*◌, ◌^◌, ◌++◌, [], ◌∷◌, ℕ, List, Option, IfOk, OnOk, Some, length, slice_get, slice_index, vec_len, vec_capacity};
 ghost use Rattle.tau_base.specs.declared.limits.TheConstants.{MAX_BEGIN, MAX_CATALOGUE, MAX_STREAMS, MAX_WORKERS, SHARDS};
 ghost use Rattle.tau_base.specs.Modes.{format_of, most_streams};
 ghost use Rattle.tau_text.specs.Canonical.{declarations_text};
 ghost use Rattle.tau_text.specs.Kept.{AreCalls};
 ghost use Rattle.tau_core.specs.Opens.{Fits, Opened, OpenedFresh, catalogue_size, load_of};
-ghost use Rattle.tau_core.specs.Plain.{PlainStream};
+ghost use Rattle.tau_core.specs.Plain.{PlainSeat, PlainStream};
+ghost use Rattle.tau_rule.specs.First.{first_view};
 ghost use Rattle.tau_rule.specs.Rule.{part_count};
+ghost use Rattle.tau_rule.specs.declared.part.Part.{Part as PartOf};
 ghost use Rattle.tau_desk.specs.Close.{IsShardOf, IsBoxOf};
 ghost use Rattle.tau_desk.specs.Ends.{AreResting, IsFirst, IsWhole};
 ghost use Rattle.tau_desk.specs.Kept.{HasRoom};
+ghost use Rattle.tau_desk.specs.Shares.{PlainStock, PlainWork};
 ghost use Rattle.tau_desk.specs.Laid.{AreUnbegun, AreFirstWords, AreLaid, AreWords, EachOf, HasAnchor, HasBox, HasShard, IsFirstAnchor, IsItsStock, IsItsWork, stock_at, work_of};
 
 use crate::desk::Desk;
@@ -20,11 +23,13 @@ use crate::seat::{Head, Stock, Work};
 use atomic_table::Table;
 use std::alloc::Global;
 use std::snapshot::Snapshot;
+use tau_ack::Pending;
 use tau_base::{LogMode, Lv, NoMemory, SHARDS};
 use tau_core::{Core, Load, Opening, Parts, Stream};
 use tau_model::CommittedList;
 use tau_occ::Style;
-use tau_rule::{Origin, Part};
+use tau_outbox::Outbox;
+use tau_rule::{OneCore, Origin, Part, Seat, View};
 use tau_shard::Shard;
 use tau_text::Workload;
 
@@ -95,30 +100,93 @@ fn desk_of(alloc: Global, core: Core, style: Style) -> Result<(Desk, Head), NoMe
         gathered: _,
         plv,
     } = core.into_parts();
-    let (slots, workers, managers) = lay_all(alloc, shards, seats, streams, &ends)?;
+    let laid = lay_all(alloc, shards, seats, streams, &ends)?;
+    begun_on(alloc, &key, load, laid, &ends, &plv)
+}
+
+/// The desk on which the parts of this core have been laid.
+fn begun_on(
+    alloc: Global,
+    key: &Origin,
+    load: Load,
+    laid: Laid,
+    ends: &Lv,
+    plv: &Lv,
+) -> Result<(Desk, Head), NoMemory>
+    requires opened { Opened key.now.value.load key.now.value }
+    requires short { (j : ℕ) → j < key.now.value.load.streams → slice_index key.now.value.load.opening.ends j ≤ MAX_BEGIN }
+    requires load { load ≡ key.now.value.load }
+    requires ends { ends.now ≡ key.now.value.ends }
+    requires plv { plv.now ≡ key.now.value.plv }
+    requires laid { AreLaid key.now.value.ends key.now.value.shards key.now.value.seats key.now.value.streams laid.0.items laid.1.items laid.2.items }
+    ensures { IfOk result (λ d. (d.0.table.shared.key.value ≡ key.now.value) × IsFirst key.now.value d.1.me × IsWhole d.1 × (d.1.table_id ≡ d.0.table.shared.table_id) × AreUnbegun d.1.workers × (d.0.table.shared.key.style ≡ key.now.style)) }
+{
+    let (slots, workers, managers) = laid;
     let parts = slots.len();
-    let words = first_words(alloc, parts, &ends, &plv)?;
-    let kept = kept_of(alloc, &load)?;
-    let Ok((table, seat)) = Table::new(alloc, words.as_slice(), slots, &key) else {
-        return Err(NoMemory);
+    let (table, seat) = table_of(alloc, key, slots, ends, plv)?;
+    let desk = desk_with(alloc, table, load, key.style, parts)?;
+    let head = Head {
+        seat,
+        workers,
+        managers,
+        clerk: true,
+        seen: *ends,
     };
+    Ok((desk, head))
+}
+
+/// The table of a desk, and its first seat.
+type Opens = (Table<Option<Part>, View, Origin, OneCore, Global>, Seat);
+
+/// The table that has these parts in its slots and these positions in its words.
+fn table_of(
+    alloc: Global,
+    key: &Origin,
+    slots: Vec<Option<Part>>,
+    ends: &Lv,
+    plv: &Lv,
+) -> Result<Opens, NoMemory>
+    requires opened { Opened key.now.value.load key.now.value }
+    requires short { (j : ℕ) → j < key.now.value.load.streams → slice_index key.now.value.load.opening.ends j ≤ MAX_BEGIN }
+    requires ends { ends.now ≡ key.now.value.ends }
+    requires plv { plv.now ≡ key.now.value.plv }
+    requires laid { (works : List (Option PlainWork)) × (stocks : List (Option PlainStock)) × AreLaid key.now.value.ends key.now.value.shards key.now.value.seats key.now.value.streams slots.items works stocks }
+    ensures made { IfOk result (λ t. (t.0.shared.key ≡ key.now) × (t.1.me ≡ (first_view key.now.value, [])) × (t.1.table_id ≡ t.0.shared.table_id) × (t.0.shared.table_id.words ≡ 8 * (part_count key.now.value.load + (key.now.value.load.streams + key.now.value.load.streams + 1))) × (t.0.shared.table_id.slots ≡ part_count key.now.value.load)) }
+    ensures count { length slots.items ≡ part_count key.now.value.load }
+{
+    let words = first_words(alloc, slots.len(), ends, plv)?;
+    match Table::new(alloc, words.as_slice(), slots, key) {
+        Ok(made) => Ok(made),
+        Err(_) => Err(NoMemory),
+    }
+}
+
+/// The desk with this table.
+fn desk_with(
+    alloc: Global,
+    table: Table<Option<Part>, View, Origin, OneCore, Global>,
+    load: Load,
+    style: Style,
+    parts: usize,
+) -> Result<Desk, NoMemory>
+    requires opened { Opened table.shared.key.value.load table.shared.key.value }
+    requires load { load ≡ table.shared.key.value.load }
+    requires style { style ≡ table.shared.key.style }
+    requires count { parts ≡ part_count table.shared.key.value.load }
+    requires words { table.shared.table_id.words ≡ 8 * (part_count table.shared.key.value.load + (table.shared.key.value.load.streams + table.shared.key.value.load.streams + 1)) }
+    requires slots { table.shared.table_id.slots ≡ part_count table.shared.key.value.load }
+    ensures { IfOk result (λ d. (d.table.shared.key ≡ table.shared.key) × (d.table.shared.table_id ≡ table.shared.table_id)) }
+{
+    let kept = kept_of(alloc, &load)?;
     let streams = load.streams;
-    let desk = Desk {
+    Ok(Desk {
         table,
         load,
         style,
         parts,
         streams,
         kept,
-    };
-    let head = Head {
-        seat,
-        workers,
-        managers,
-        clerk: true,
-        seen: ends,
-    };
-    Ok((desk, head))
+    })
 }
 
 /// What the parts of a core lie in: the slots of all, and what the workers and the managers have of their own.
@@ -135,9 +203,9 @@ fn lay_all(
     requires rest { (j : ℕ) (s : PlainStream) → slice_get streams.items j ≡ Some s → s.own.pieces ≡ [] }
     ensures { IfOk result (λ laid. AreLaid ends.now shards.items seats.items streams.items laid.0.items laid.1.items laid.2.items) }
 {
-    let (boxes, workers) = lay_seats(alloc, seats)?;
-    let (anchors, managers) = lay_streams(alloc, streams, ends)?;
-    let slots = all_of(lay_shards(alloc, shards)?, boxes, anchors)?;
+    let mut slots = lay_shards(alloc, shards)?;
+    let workers = lay_seats(alloc, seats, &mut slots)?;
+    let managers = lay_streams(alloc, streams, ends, &mut slots)?;
     Ok((slots, workers, managers))
 }
 
@@ -183,26 +251,28 @@ fn shard_part(alloc: Global, shard: Shard) -> Result<Part, NoMemory>
     Ok(Part::Shard(Box::new(alloc, shard)?))
 }
 
-/// What each worker shares in a slot, and what it has of its own.
+/// Puts what each worker shares into a slot after these, and gives what it has of its own.
 fn lay_seats(
     alloc: Global,
     seats: Vec<tau_core::Seat>,
-) -> Result<(Vec<Option<Part>>, Vec<Option<Work>>), NoMemory>
-    ensures { IfOk result (λ laid. EachOf HasBox seats.items laid.0.items × EachOf IsItsWork seats.items laid.1.items) }
+    slots: &mut Vec<Option<Part>>,
+) -> Result<Vec<Option<Work>>, NoMemory>
+    ensures { IfOk result (λ works. (boxes : List (Option PartOf)) × (slots.new.items ≡ slots.old.items ++ boxes) × EachOf HasBox seats.items boxes × EachOf IsItsWork seats.items works.items) }
 {
-    let mut slots = Vec::new(alloc);
     let mut works = Vec::new(alloc);
     for seat in seats {
-        let (part, work) = lay_seat(alloc, seat)?;
-        slots.push(Some(part))?;
+        let work = lay_seat(alloc, seat, slots)?;
         works.push(Some(work))?;
     }
-    Ok((slots, works))
+    Ok(works)
 }
 
-fn lay_seat(alloc: Global, seat: tau_core::Seat) -> Result<(Part, Work), NoMemory>
-    ensures shared { IfOk result (λ laid. IsBoxOf laid.0 seat) }
-    ensures work { IfOk result (λ laid. (room : ℕ) × (laid.1 ≡ work_of seat room)) }
+fn lay_seat(
+    alloc: Global,
+    seat: tau_core::Seat,
+    slots: &mut Vec<Option<Part>>,
+) -> Result<Work, NoMemory>
+    ensures { IfOk result (λ work. (p : PartOf) × (room : ℕ) × (slots.new.items ≡ slots.old.items ++ Some p ∷ []) × IsBoxOf p seat × (work ≡ work_of seat room)) }
 {
     let tau_core::Seat {
         next,
@@ -213,14 +283,13 @@ fn lay_seat(alloc: Global, seat: tau_core::Seat) -> Result<(Part, Work), NoMemor
         outbox,
         pending,
     } = seat;
-    let outbox = Box::new(alloc, outbox)?;
-    let pending = Box::new(alloc, pending)?;
+    put_box(alloc, outbox, pending, slots)?;
     let txn = Box::new(alloc, txn)?;
     let room = Room {
         records: 0,
         calls: 0,
     };
-    let work = Work {
+    Ok(Work {
         next,
         again,
         txn,
@@ -229,36 +298,52 @@ fn lay_seat(alloc: Global, seat: tau_core::Seat) -> Result<(Part, Work), NoMemor
         committed: CommittedList::new(alloc),
         room,
         mark: None,
-    };
-    Ok((Part::Outbox(outbox, pending), work))
+    })
 }
 
-/// The published anchor of each stream in a slot, and what its manager has of its own.
+/// Puts what a worker shares into the next slot.
+fn put_box(
+    alloc: Global,
+    outbox: Outbox,
+    pending: Pending,
+    slots: &mut Vec<Option<Part>>,
+) -> Result<(), NoMemory>
+    ensures { OnOk result ((p : PartOf) × (slots.new.items ≡ slots.old.items ++ Some p ∷ []) × ((x : PlainSeat) → x.outbox ≡ outbox → x.pending ≡ pending → IsBoxOf p x)) }
+{
+    let outbox = Box::new(alloc, outbox)?;
+    let pending = Box::new(alloc, pending)?;
+    slots.push(Some(Part::Outbox(outbox, pending)))?;
+    Ok(())
+}
+
+/// Puts the published anchor of each stream into a slot after these, and gives what its manager has of its own.
 fn lay_streams(
     alloc: Global,
     streams: Vec<Stream>,
     ends: &Lv,
-) -> Result<(Vec<Option<Part>>, Vec<Option<Stock>>), NoMemory>
+    slots: &mut Vec<Option<Part>>,
+) -> Result<Vec<Option<Stock>>, NoMemory>
     requires rest { (j : ℕ) (s : PlainStream) → slice_get streams.items j ≡ Some s → s.own.pieces ≡ [] }
-    ensures { IfOk result (λ laid. EachOf (HasAnchor (length ends.now)) streams.items laid.0.items × EachOf (IsItsStock ends.now) streams.items laid.1.items) }
+    ensures { IfOk result (λ stocks. (anchors : List (Option PartOf)) × (slots.new.items ≡ slots.old.items ++ anchors) × EachOf (HasAnchor (length ends.now)) streams.items anchors × EachOf (IsItsStock ends.now) streams.items stocks.items) }
 {
-    let mut slots = Vec::new(alloc);
     let mut stocks = Vec::new(alloc);
     for stream in streams {
+        put_anchor(alloc, ends.width(), slots)?;
         let end = ends.position(stocks.len());
-        let part = first_anchor(alloc, ends.width())?;
-        slots.push(Some(part))?;
         stocks.push(Some(stock_of(stream, end)))?;
     }
-    Ok((slots, stocks))
+    Ok(stocks)
 }
 
-fn first_anchor(alloc: Global, streams: usize) -> Result<Part, NoMemory>
+/// Puts the anchor of a stream that has published none into the next slot.
+fn put_anchor(alloc: Global, streams: usize, slots: &mut Vec<Option<Part>>) -> Result<(), NoMemory>
     requires low { 1 ≤ streams }
     requires high { streams ≤ MAX_STREAMS }
-    ensures { IfOk result (λ part. IsFirstAnchor streams part) }
+    ensures { OnOk result ((p : PartOf) × (slots.new.items ≡ slots.old.items ++ Some p ∷ []) × IsFirstAnchor streams p) }
 {
-    Ok(Part::Anchor(0, Box::new(alloc, Lv::zero(streams))?))
+    let lv = Box::new(alloc, Lv::zero(streams))?;
+    slots.push(Some(Part::Anchor(0, lv)))?;
+    Ok(())
 }
 
 fn stock_of(stream: Stream, gathered: u64) -> Stock
@@ -276,23 +361,6 @@ fn stock_of(stream: Stream, gathered: u64) -> Stock
         own: OwnRecords::of(own),
         gathered,
     }
-}
-
-/// The slots of all parts, in the order of their numbers.
-fn all_of(
-    mut shards: Vec<Option<Part>>,
-    mut boxes: Vec<Option<Part>>,
-    mut anchors: Vec<Option<Part>>,
-) -> Result<Vec<Option<Part>>, NoMemory>
-    ensures { IfOk result (λ slots. slots.items ≡ (shards.items ++ boxes.items) ++ anchors.items) }
-{
-    let Ok(()) = shards.append(&mut boxes) else {
-        return Err(NoMemory);
-    };
-    let Ok(()) = shards.append(&mut anchors) else {
-        return Err(NoMemory);
-    };
-    Ok(shards)
 }
 
 /// The words of a table with so many free turns.

@@ -1,14 +1,19 @@
+use Rattle.std.proofs.Common.{List, Option, ap, ◌++◌, ◌∙◌}
+use Rattle.tau_rule.specs.declared.part.Part.{Part}
 use Rattle.tau_desk.proofs.opens.lay_all.Goals as goal
 
 pub returns : goal.returns
-returns c = record {
-  shard_slots = c.in_ok-lay_shards.field-0.items;
-  box_slots = c.in_ok-boxes.boxes.items;
-  anchor_slots = c.in_ok-anchors.anchors.items;
-  have_shards = c.in_ok-lay_shards.ensures;
-  have_boxes = c.in_ok-boxes.ensures.0;
-  have_anchors = c.in_ok-anchors.ensures.0;
-  slots_are = c.in_ok-slots.ensures;
-  own_work = c.in_ok-boxes.ensures.1;
-  own_stock = c.in_ok-anchors.ensures.1;
-}
+returns c =
+    let boxes = c.in_ok-workers.ensures in
+    let anchors = c.in_ok-managers.ensures in
+    record {
+      shard_slots = c.in_ok-slots.slots.items;
+      box_slots = boxes.0;
+      anchor_slots = anchors.0;
+      have_shards = c.in_ok-slots.ensures;
+      have_boxes = boxes.2;
+      have_anchors = anchors.2;
+      slots_are = anchors.1 ∙ ap (λ (l : List (Option Part)). l ++ anchors.0) boxes.1;
+      own_work = boxes.3;
+      own_stock = anchors.3;
+    }

@@ -1,4 +1,4 @@
-use Rattle.std.proofs.Common.{rules, ◌++◌, ◌∷◌, ◌≡◌, ◌∙◌, [], ℕ, List, Option, length, refl, sym, ap, subst}
+use Rattle.std.proofs.Common.{rules, ◌++◌, ◌∷◌, ◌≡◌, ◌∙◌, [], ℕ, List, Option, length, refl, sym, ap, subst, append_assoc}
 use Rattle.std.specs.Prelude.{Some, slice_index}
 use Rattle.std.specs.Vec.Iter.{into_iter_items, into_iter_len}
 use Rattle.std.proofs.lemmas.Iterator.Consumers.{YieldsList-turn}
@@ -24,11 +24,15 @@ loop-stream-preserved c =
     let i = c.loop-stream.invariant in
     let at : c.len.result ≡ length c.loop-stream.stocks.items = search rules in
     let end : c.position-end.result ≡ slice_index ends (length c.loop-stream.yielded) = c.position-end.ensures.same ∙ ap (slice_index ends) (at ∙ i.stocks.count) in
+    let e = c.in_ok-put_anchor.ensures in
+    let anchors = i.slots in
     record {
-      slots = subst (λ (ys : List (Option Part)). EachOf (HasAnchor (length ends)) (c.loop-stream.yielded ++ c.in-Some.stream ∷ []) ys) (sym c.in_ok-push.ensures.items)
-          (each_more (HasAnchor (length ends)) c.loop-stream.yielded c.loop-stream.slots.items c.in-Some.stream (Some c.in_ok-part.part) i.slots
-          (c.in_ok-part.part, refl, subst (λ (n : ℕ). IsFirstAnchor n c.in_ok-part.part) c.width.ensures.same c.in_ok-part.ensures));
-      stocks = subst (λ (ys : List (Option PlainStock)). EachOf (IsItsStock ends) (c.loop-stream.yielded ++ c.in-Some.stream ∷ []) ys) (sym c.in_ok-push-2.ensures.items)
+      slots = (
+        anchors.0 ++ Some e.0 ∷ [],
+        e.1 ∙ ap (λ (l : List (Option Part)). l ++ Some e.0 ∷ []) anchors.1 ∙ append_assoc c.args.slots.now.items anchors.0 (Some e.0 ∷ []),
+        each_more (HasAnchor (length ends)) c.loop-stream.yielded anchors.0 c.in-Some.stream (Some e.0) anchors.2 (e.0, refl, subst (λ (n : ℕ). IsFirstAnchor n e.0) c.width.ensures.same e.2),
+      );
+      stocks = subst (λ (ys : List (Option PlainStock)). EachOf (IsItsStock ends) (c.loop-stream.yielded ++ c.in-Some.stream ∷ []) ys) (sym c.in_ok-push.ensures.items)
           (each_more (IsItsStock ends) c.loop-stream.yielded c.loop-stream.stocks.items c.in-Some.stream (Some c.stock_of.result) i.stocks
           (c.stock_of.ensures.0, ap (λ (o : PlainStock). Some o) c.stock_of.ensures.1 ∙ ap (λ (n : ℕ). Some (stock_at c.in-Some.stream n c.stock_of.ensures.0)) end));
     }

@@ -9,7 +9,8 @@ use Rattle.tau_base.specs.Shards.{shard_number}
 use Rattle.tau_shard.specs.Plain.{PlainShard}
 use Rattle.tau_proc.specs.declared.proc.Proc.{Proc}
 use Rattle.tau_txn.specs.declared.action.Action.TheVariants as action
-use Rattle.tau_txn.specs.Next.{next_action, Locks}
+use Rattle.tau_txn.specs.declared.action.Action.{Action}
+use Rattle.tau_txn.specs.Next.{next_action, IsLock, Locks}
 use Rattle.tau_txn.specs.Txn.{PlainTxn, RunsBy, dep_in, hand_in, leaves_in, worker_of}
 use Rattle.tau_core.specs.State.{Plain}
 use Rattle.tau_rule.specs.Knows.{Knows}
@@ -20,8 +21,31 @@ use Rattle.tau_base.specs.Database.{same_key}
 use Rattle.tau_core.specs.View.{setting_of}
 use Rattle.tau_machine.proofs.Conflicts.{no_conflict}
 use Rattle.tau_desk.proofs.Peeking.{differs_steps, taken_shard}
-use Rattle.tau_desk.proofs.Locking.{granted_steps, busy_steps, refused_held, taken_wide}
+use Rattle.tau_desk.proofs.Locking.{no_lock, granted_steps, busy_steps, refused_held, taken_wide}
 use Rattle.tau_desk.proofs.peeks.lock_seen.Goals as goal
+
+pub dep_ref-wide-requires : goal.dep_ref-wide-requires
+dep_ref-wide-requires g c = c.in-Some.ensures.hand refl
+
+pub lock_on-requires-clause-lock : goal.lock_on-requires-clause-lock
+lock_on-requires-clause-lock g c = c.in-Some.ensures.next
+
+pub busy-requires-clause-lock : goal.busy-requires-clause-lock
+busy-requires-clause-lock g c = subst (λ (a : Action). IsLock a) (sym c.in-Some.ensures.next) tt
+
+pub busy-requires-clause-run : goal.busy-requires-clause-run
+busy-requires-clause-run g c = subst (λ (p : List Proc). RunsBy p c.args.txn.now) (sym c.requires.procs) c.requires.ready.runs
+
+pub busy-requires-in-Err-Busy-clause-lock : goal.busy-requires-in-Err-Busy-clause-lock
+busy-requires-in-Err-Busy-clause-lock g c =
+    let before : IsLock (next_action c.args.txn.now) = subst (λ (a : Action). IsLock a) (sym c.in-Some.ensures.next) tt in
+    subst (λ (t : PlainTxn). IsLock (next_action t)) (sym c.in-Err-Busy.ensures.as_before) before
+
+pub busy-requires-in-Err-Busy-clause-run : goal.busy-requires-in-Err-Busy-clause-run
+busy-requires-in-Err-Busy-clause-run g c = c.lock_on.ensures.runs c.args.procs.now (subst (λ (p : List Proc). RunsBy p c.args.txn.now) (sym c.requires.procs) c.requires.ready.runs)
+
+pub returns-in_default-clause-other : goal.returns-in_default-clause-other
+returns-in_default-clause-other g c = λ e. no_lock (next_action c.args.txn.now) c.lock_asked.result c.lock_asked.ensures.asked c.in_default.not-Some
 
 pub lock_on-requires-clause-wide : goal.lock_on-requires-clause-wide
 lock_on-requires-clause-wide g c =
