@@ -1,10 +1,11 @@
 -- The flushes of a whole run in which no stream stops.
 use Rattle.std.proofs.Common.{ℕ, ◌<◌, ◌≤◌, ◌≡◌, true, List, [], length, refl, sym, subst, ◌∙◌, arith, Option}
-use Rattle.std.specs.Prelude.{None}
+use Rattle.std.specs.Prelude.{None, IfOk, Result, Ok, Err}
 use Rattle.std.proofs.lemmas.List.{length-replicate}
 use Rattle.tau_base.specs.declared.format.Format.{Format}
 use Rattle.tau_base.specs.declared.format.Format.TheVariants.{One, Two}
 use Rattle.tau_base.specs.declared.value.LogMode.{LogMode}
+use Rattle.tau_base.specs.declared.value.NoMemory.{NoMemory}
 use Rattle.tau_base.specs.Modes.{format_of, most_streams}
 use Rattle.tau_disk.specs.declared.disk.Disk.{Ghosts}
 use Rattle.tau_stream.specs.declared.writer.Writer.{Writer}
@@ -40,6 +41,11 @@ use Rattle.tau_step.specs.Optimists.{Peeks}
 use Rattle.tau_step.specs.Rounding.{none_peeked, ran_all}
 use Rattle.tau_step.proofs.Ending.{all_whole, begun_along, begun_kept}
 use Rattle.tau_step.proofs.EffectsInTurn.{lowest_same}
+
+-- what follows of a result follows if it is Ok
+pub of_ok : {P Q : List ℕ → Type 0} (r : Result (List ℕ) NoMemory) → ((flushes : List ℕ) → P flushes → Q flushes) → IfOk r P → IfOk r Q
+of_ok (Ok flushes) f h = f flushes h
+of_ok (Err e) f h = h
 
 -- every format has room for the streams of the first
 pub low_streams : (f : Format) (n : ℕ) → n ≤ most_streams One → n ≤ most_streams f

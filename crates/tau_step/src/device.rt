@@ -1,5 +1,5 @@
 //! The order in which a run calls its disks.
-ghost use Rattle.std.specs.Prelude.{ℕ, ◌≡◌, ◌≤◌, ◌++◌, [], false, length, replicate, vec_len, IfOk, OnOk};
+ghost use Rattle.std.specs.Prelude.{ℕ, ◌≡◌, ◌≤◌, ◌++◌, [], true, false, length, replicate, vec_len, IfOk, OnOk};
 ghost use Rattle.std.specs.List.{flat_map};
 ghost use Rattle.tau_base.specs.declared.format.Format.{Format};
 ghost use Rattle.tau_base.specs.declared.format.Format.TheVariants.{One};
@@ -12,14 +12,21 @@ ghost use Rattle.tau_disk.specs.Left.{may_leave_each};
 ghost use Rattle.tau_open.specs.Outside.{calls_to_make};
 ghost use Rattle.tau_run.specs.Start.{catalogue_of};
 ghost use Rattle.tau_run.specs.Run.{below};
+ghost use Rattle.tau_run.specs.RunFacts.{turns_of};
 ghost use Rattle.tau_run.specs.Writers.{AreNew};
 ghost use Rattle.tau_step.specs.Counts.{calls_to_flush};
 ghost use Rattle.tau_step.specs.Device.{IsDeviceOrder, IsFlushOrder, IsOfRun};
+ghost use Rattle.tau_occ.specs.declared.style.Style.TheVariants.{Locking};
+ghost use Rattle.tau_step.specs.declared.run.Run.{Run as OneRun};
+ghost use Rattle.tau_step.specs.Optimists.{Peeks};
+ghost use Rattle.tau_step.specs.RunEffects.{IsOn, Moves};
+ghost use Rattle.tau_step.specs.Rounding.{none_peeked, ran_all};
 
 use crate::clerk::Clerk;
 use crate::flushes::Flushes;
 use crate::run::Run;
 use std::alloc::Global;
+use std::mem;
 use tau_base::{Listed, LogMode, NoMemory};
 use tau_core::Core;
 use tau_disk::{Disk, Failed, Sink};
@@ -115,26 +122,32 @@ fn streams_of(alloc: Global, load: &Workload, n: u8) -> Result<Vec<Writer<NoDisk
     }
 }
 
-/// What a run has flushed, if all of it was noted and no disk failed.
-fn flushes_in(run: Run) -> Result<Listed<u8>, NoMemory>
-    ensures { IfOk result (λ flushes. IsOfRun run.failed run.flushes flushes) }
+/// What a run has flushed, if all of it was noted and no disk failed. It is taken out of the run.
+fn flushes_in(alloc: Global, run: &mut Run) -> Result<Listed<u8>, NoMemory>
+    ensures { IfOk result (λ flushes. IsOfRun run.old.failed run.old.flushes flushes) }
 {
-    let Run {
-        core: _,
-        clerk: _,
-        workers: _,
-        streams: _,
-        failed,
-        flushes,
-        body: _,
-    } = run;
-    if failed.is_some() {
+    if run.failed.is_some() {
         return Err(NoMemory);
     }
-    if !flushes.noted {
+    if !run.flushes.noted {
         return Err(NoMemory);
     }
-    Ok(flushes.streams)
+    Ok(mem::replace(&mut run.flushes.streams, Listed::new(alloc)))
+}
+
+/// The stream of each flush of this run, which has not begun.
+fn flushes_by(
+    alloc: Global,
+    run: &mut Run,
+    load: &Workload,
+    writers: &mut Vec<Writer<NoDisk>>,
+) -> Result<Listed<u8>, NoMemory>
+    requires on { IsOn writers.old.items run.old }
+    ensures { IfOk result (λ flushes. (last : OneRun) × (peeks : Peeks) × Moves (ran_all Locking none_peeked peeks (turns_of load.now)) true run.old last writers.old.items writers.new.items ⊥ [] [] 0 0 × IsOfRun last.failed last.flushes flushes) }
+{
+    let mut peekers = Vec::new(alloc);
+    run.all(Style::Locking, load, &mut peekers, writers, &mut NoSink)?;
+    flushes_in(alloc, run)
 }
 
 /// The stream of each flush of the run that begins so.
@@ -161,9 +174,7 @@ fn flushes_of(
         flushes: Flushes::new(alloc, true),
         body: Vec::new(alloc),
     };
-    let mut peekers = Vec::new(alloc);
-    run.all(Style::Locking, load, &mut peekers, writers, &mut NoSink)?;
-    flushes_in(run)
+    flushes_by(alloc, &mut run, load, writers)
 }
 
 /// Each stream is asked its length.

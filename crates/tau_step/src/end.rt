@@ -12,31 +12,30 @@ ghost use Rattle.tau_run.specs.Fates.{IsNumberOf, fates_by};
 
 use crate::run::Run;
 use std::alloc::Global;
+use std::mem;
 use tau_base::NoMemory;
-use tau_report::RunEnd;
+use tau_report::{Acks, RunEnd};
 use tau_run::tell_end;
 
 /// What the run tells, of so many calls.
-pub(crate) fn end_of(alloc: Global, run: Run, calls: usize) -> Result<RunEnd, NoMemory>
-    requires stood { Stood run.core }
-    requires calls { calls ≡ length run.core.load.calls }
-    requires told { All (λ ack. IsNumberOf calls ack.0) run.clerk.acks }
-    ensures acks { IfOk result (λ end. end.report.acks ≡ run.clerk.acks) }
-    ensures fates { IfOk result (λ end. (K : List (Act Txn)) (h : Hidden) → Stands run.core K h → end.report.fates ≡ fates_by (length run.core.load.calls) K run.clerk.acks) }
-    ensures order { IfOk result (λ end. (K : List (Act Txn)) (h : Hidden) → Stands run.core K h → end.report.order ≡ map (λ t. t.call.call.number) (reported run.core.ends K)) }
-    ensures tables { IfOk result (λ end. (K : List (Act Txn)) (h : Hidden) → Stands run.core K h → IsTablesOf (sight (setting_of run.core.load) (core_of run.core h)).row end.report.tables) }
-    ensures disk { IfOk result (λ end. end.disk ≡ run.failed) }
-    ensures sink { IfOk result (λ end. end.sink_failed ≡ run.clerk.sink_failed) }
+pub(crate) fn end_of(alloc: Global, run: &mut Run, calls: usize) -> Result<RunEnd, NoMemory>
+    requires stood { Stood run.old.core }
+    requires calls { calls ≡ length run.old.core.load.calls }
+    requires told { All (λ ack. IsNumberOf calls ack.0) run.old.clerk.acks }
+    ensures acks { IfOk result (λ end. end.report.acks ≡ run.old.clerk.acks) }
+    ensures fates { IfOk result (λ end. (K : List (Act Txn)) (h : Hidden) → Stands run.old.core K h → end.report.fates ≡ fates_by (length run.old.core.load.calls) K run.old.clerk.acks) }
+    ensures order { IfOk result (λ end. (K : List (Act Txn)) (h : Hidden) → Stands run.old.core K h → end.report.order ≡ map (λ t. t.call.call.number) (reported run.old.core.ends K)) }
+    ensures tables { IfOk result (λ end. (K : List (Act Txn)) (h : Hidden) → Stands run.old.core K h → IsTablesOf (sight (setting_of run.old.core.load) (core_of run.old.core h)).row end.report.tables) }
+    ensures disk { IfOk result (λ end. end.disk ≡ run.old.failed) }
+    ensures sink { IfOk result (λ end. end.sink_failed ≡ run.old.clerk.sink_failed) }
 {
-    let Run {
-        core,
-        clerk,
-        workers: _,
-        streams: _,
-        failed,
-        flushes: _,
-        body: _,
-    } = run;
-    let sink_failed = clerk.sink_failed;
-    tell_end(alloc, &core, clerk.acks, calls, failed, sink_failed)
+    let acks = mem::replace(&mut run.clerk.acks, Acks::new(alloc));
+    tell_end(
+        alloc,
+        &run.core,
+        acks,
+        calls,
+        run.failed,
+        run.clerk.sink_failed,
+    )
 }

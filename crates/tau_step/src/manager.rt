@@ -18,7 +18,7 @@ use tau_stream::{Flush, Writer};
 const END_OF_POSITIONS: u64 = 1_152_921_504_606_846_976;
 
 /// What the turn of a manager did.
-#[derive(Clone, Copy, Debug, PartialEq, Eq)]
+#[derive(Clone, Copy)]
 pub(crate) enum Managing {
     /// There was nothing to flush, or the disk has failed before.
     Idle,

@@ -1,5 +1,5 @@
 //! Runs by turns.
-ghost use Rattle.std.specs.Prelude.{ℕ, ◌≡◌, ◌≤◌, IfOk, List, length, replicate};
+ghost use Rattle.std.specs.Prelude.{ℕ, ◌≡◌, ◌≤◌, [], false, IfOk, List, length, replicate};
 ghost use Rattle.tau_base.specs.declared.limits.TheConstants.{MAX_CATALOGUE, MAX_WORKERS};
 ghost use Rattle.tau_base.specs.Modes.{format_of, most_streams};
 ghost use Rattle.tau_disk.specs.Disk.{Rose};
@@ -14,6 +14,7 @@ ghost use Rattle.tau_run.specs.RunFacts.{by_turns};
 ghost use Rattle.tau_run.specs.Writers.{AreNew, IsBegun};
 ghost use Rattle.tau_step.specs.Counts.{counting};
 ghost use Rattle.tau_step.specs.Optimists.{blank_peekers};
+ghost use Rattle.tau_step.specs.RunEffects.{IsOn};
 
 use crate::clerk::Clerk;
 use crate::end::end_of;
@@ -111,7 +112,31 @@ fn go<D: Disk, K: Sink>(
         flushes: Flushes::new(alloc, false),
         body: Vec::new(alloc),
     };
-    let mut peekers = peekers_of(alloc, style, m)?;
+    run_and_tell(alloc, &mut run, load, writers, sink, style)
+}
+
+/// The whole of a run that has not begun, and what it tells.
+fn run_and_tell<D: Disk, K: Sink>(
+    alloc: Global,
+    run: &mut Run,
+    load: &Workload,
+    writers: &mut Vec<Writer<D>>,
+    sink: &mut K,
+    style: Style,
+) -> Result<RunEnd, NoMemory>
+    requires on { IsOn writers.old.items run.old }
+    requires opened { Opened run.old.core.load run.old.core }
+    requires acks { run.old.clerk.acks ≡ [] }
+    requires works { run.old.clerk.sink_failed ≡ false }
+    requires procs { load.now.declarations.procs ≡ run.old.core.load.procs }
+    requires calls { load.now.calls ≡ run.old.core.load.calls }
+    requires begun { (bases : ℕ → List ℕ) × IsBegun (format_of run.old.core.load.mode) bases writers.old.items run.old.core.load.opening }
+    ensures ran { (bases : ℕ → List ℕ) → IsBegun (format_of run.old.core.load.mode) bases writers.old.items run.old.core.load.opening →
+        Gave (counting writers.old.items writers.new.items (by_turns style run.old.core.load.streams run.old.core.load.workers load.now)) bases run.old.core.load writers.old.items writers.new.items K.tells (K.held sink.old) (K.held sink.new) (Rose (K.faults sink.old) (K.faults sink.new)) result }
+    ensures faults { K.faults sink.old ≤ K.faults sink.new }
+    ensures count { length writers.new.items ≡ length writers.old.items }
+{
+    let mut peekers = peekers_of(alloc, style, run.workers)?;
     run.all(style, load, &mut peekers, writers, sink)?;
     end_of(alloc, run, load.calls.len())
 }
