@@ -11,7 +11,7 @@ use tau_base::{Lv, MAX_LSN, MAX_STREAMS};
 pub(crate) const FRAME: usize = 24;
 
 /// The fields of a body before its rows.
-#[derive(Debug, Drop)]
+#[derive(Drop)]
 pub(crate) struct Head {
     /// The number of the checkpoint.
     pub(crate) number: u64,
