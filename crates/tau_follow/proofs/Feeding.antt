@@ -1,6 +1,8 @@
 -- One stream is fed, and the others are as they were.
-use Rattle.std.proofs.Common.{ℕ, zero, suc, ◌+◌, ◌<◌, ◌≡◌, List, [], ◌∷◌, ◌++◌, length, set, Some, Result, Ok, Err, refl, sym, ap, subst, ◌∙◌, arith}
-use Rattle.std.specs.Prelude.{slice_get, slice_index_or}
+use Rattle.std.proofs.Common.{ℕ, true, nat_lt, zero, suc, ◌+◌, ◌<◌, ◌≡◌, List, [], ◌∷◌, ◌++◌, length, set, Some, Result, Ok, Err, refl, sym, ap, subst, ◌∙◌, arith}
+use Rattle.std.specs.Prelude.{slice_get, slice_index_or, IfOk}
+use Rattle.tau_base.specs.declared.value.NoMemory.{NoMemory}
+use Rattle.tau_base.proofs.Logic.{below_of_true}
 use Rattle.tau_base.specs.declared.format.Format.{Format}
 use Rattle.tau_record.specs.declared.entry.Placed.{Placed}
 use Rattle.tau_record.specs.declared.fault.RecordFault.{RecordFault}
@@ -10,8 +12,9 @@ use Rattle.tau_scan.specs.declared.fault.LogRefusal.{LogRefusal}
 use Rattle.tau_scan.specs.declared.fault.LogRefusal.TheVariants as refusals
 use Rattle.tau_scan.specs.Reading.{◌>>=◌, in_front, recorded}
 use Rattle.tau_follow.specs.declared.reader.Reader.{Reader}
-use Rattle.tau_follow.specs.Reading.{IsRead}
-use Rattle.tau_follow.specs.Feeding.{AreRead}
+use Rattle.tau_follow.specs.declared.reader.Mark.{Mark}
+use Rattle.tau_follow.specs.Reading.{IsRead, IsMark}
+use Rattle.tau_follow.specs.Feeding.{AreRead, IsMarkAt}
 use Rattle.std.proofs.lemmas.Bool.{cases_eq}
 use Rattle.std.proofs.Common.{inl, inr, get_or-set_same, get_or-set_other}
 use Rattle.tau_follow_laws.specs.Fed.{front_of, fronts_of}
@@ -91,6 +94,10 @@ got_at [] i x lt e = absurd (omega (arith, lt))
 got_at (y ∷ xs) zero x lt e = ap (λ z. Some z) (sym e)
 got_at (y ∷ xs) (suc i) x lt e = got_at xs i x (omega (arith, lt)) e
 
+-- the one that was got is there
+pub got_of : {A : Type 0} (xs : List A) (i : ℕ) (x : A) → true ≡ nat_lt i (length xs) → x ≡ slice_index_or xs i x → slice_get xs i ≡ Some x
+got_of xs i x lt e = got_at xs i x (below_of_true i (length xs) (sym lt)) e
+
 pub got_set : {A : Type 0} (xs : List A) (i : ℕ) (x y : A) → slice_get (set xs i x) i ≡ Some y → x ≡ y
 got_set [] i x y e = absurd cc
 got_set (z ∷ xs) zero x y e = cc
@@ -140,3 +147,11 @@ bad_fed f n fed streams readers p fault told a lt front e =
 
 pub bad_is : {A : Type 0} (a b : LogFault) → ◌≡◌ {A = Result A LogRefusal} (Err (refusals.Bad a)) (Err (refusals.Bad b)) → a ≡ b
 bad_is a b e = cc
+
+-- the stream is that of the reader and the records that were got
+pub marked_at : (j : ℕ) (streams : List (List Placed)) (readers : List Reader) (r : Reader) (ps : List Placed) (result : Result Mark NoMemory) → slice_get readers j ≡ Some r → slice_get streams j ≡ Some ps → IfOk result (λ mark. IsMark r ps mark) → IfOk result (λ mark. IsMarkAt j streams readers mark)
+marked_at j streams readers r ps (Err e) read got is = is
+marked_at j streams readers r ps (Ok m) read got is = λ qs q there by.
+    (let same : ps ≡ qs = (let e : Some ps ≡ Some qs = sym got ∙ there in cc) in
+    let one : r ≡ q = (let e : Some r ≡ Some q = sym read ∙ by in cc) in
+    subst (λ (z : Reader). IsMark z qs m) one (subst (λ (l : List Placed). IsMark r l m) same is))

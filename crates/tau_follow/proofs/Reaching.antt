@@ -1,7 +1,8 @@
 -- How far streams are followed, from where their records stand.
-use Rattle.std.proofs.Common.{ℕ, zero, suc, ◌+◌, ◌-◌, ◌≤◌, ◌<◌, Bool, true, false, cond, ◌≡◌, inl, inr, List, [], ◌∷◌, ◌++◌, length, drop, min, None, Some, refl, sym, ap, subst, ◌∙◌, arith, slice_index, set, get_or-set_other, get_or-set_same, append_assoc}
+use Rattle.std.proofs.Common.{ℕ, zero, suc, ◌+◌, ◌-◌, ◌≤◌, ◌<◌, Bool, true, false, cond, ◌≡◌, inl, inr, List, [], ◌∷◌, ◌++◌, length, drop, min, None, Some, refl, sym, ap, subst, ◌∙◌, arith, slice_index, set, get_or-set_other, get_or-set_same, append_assoc, append-nil}
 use Rattle.std.specs.Prelude.{slice_get, slice_index_or}
 use Rattle.std.proofs.lemmas.Bool.{cases_lt, cases_eq}
+use Rattle.std.proofs.lemmas.List.{drop_all}
 use Rattle.tau_record.specs.declared.entry.Placed.{Placed}
 use Rattle.tau_scan.specs.Taken.{Kept}
 use Rattle.tau_follow_laws.specs.Following.{Followed, read_to, IsReady, applied, Applies}
@@ -66,6 +67,18 @@ reaches_next streams stages j ps ss at list whole e g is so_far =
     ∙ ap (λ (v : ℕ). list ++ v ∷ reaches (drop (j + 1) streams) (drop (j + 1) stages)) is
     ∙ sym (ap (λ (l : List ℕ). list ++ l) (ap (λ (xs : List (List Placed)). reaches xs (drop j stages)) (drop_got streams j ps e) ∙ ap (reaches (ps ∷ drop (j + 1) streams)) (drop_got stages j ss g)))
     ∙ so_far
+
+pub reaches_done : (streams : List (List Placed)) (stages : List (List Stage)) (j : ℕ) (list whole : List ℕ) → length streams ≤ j → list ++ reaches (drop j streams) stages ≡ whole → list ≡ whole
+reaches_done streams stages j list whole le so_far = sym (append-nil list) ∙ sym (ap (λ (xs : List (List Placed)). list ++ reaches xs stages) (drop_all j streams le)) ∙ so_far
+
+-- what is told of the records and the stages that were got is told of those of the stream
+pub reached_at : (streams : List (List Placed)) (stages : List (List Stage)) (firsts : List ℕ) (j : ℕ) (ps : List Placed) (ss : List Stage) (qs : List Placed) (ts : List Stage) (from first at : ℕ) → slice_get streams j ≡ Some ps → slice_get stages j ≡ Some ss →
+    qs ≡ ps → ts ≡ ss → from ≡ slice_index firsts j → (NoneBefore ts from → NoneBefore ts first) → (NoneBefore ts from → at ≡ reach_by (read_to qs) qs ts) → ArePassed stages firsts →
+    (rs : List Placed) × (us : List Stage) × (slice_get streams j ≡ Some rs) × (slice_get stages j ≡ Some us) × (at ≡ reach_by (read_to rs) rs us) × NoneBefore us first
+reached_at streams stages firsts j ps ss qs ts from first at read got records_are stages_are from_is on is passed =
+    let none : NoneBefore ss (slice_index firsts j) = λ i s lt g. passed j i ss s got g lt in
+    let before : NoneBefore ts from = subst (λ (l : List Stage). NoneBefore l from) (sym stages_are) (subst (NoneBefore ss) (sym from_is) none) in
+    (ps, ss, read, got, is before ∙ ap (λ (l : List Placed). reach_by (read_to l) l ts) records_are ∙ ap (reach_by (read_to ps) ps) stages_are, subst (λ (l : List Stage). NoneBefore l first) stages_are (on before))
 
 pub passed_set : (stages : List (List Stage)) (firsts : List ℕ) (j first : ℕ) (ss : List Stage) → ArePassed stages firsts → slice_get stages j ≡ Some ss → NoneBefore ss first → ArePassed stages (set firsts j first)
 passed_set stages firsts j first ss passed at none k i tt' s g h lt = elim (cases_eq k j) [

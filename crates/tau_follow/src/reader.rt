@@ -1,5 +1,5 @@
 //! What is read of a stream while it grows.
-ghost use Rattle.std.specs.Prelude.{◌≡◌, ◌≤◌, ◌<◌, ◌+◌, ◌-◌, ◌++◌, ◌∷◌, [], ℕ, List, length, drop, take, true, false, None, Ok, Err, is_ok, IfOk, IfErr, OnOk, OnErr, IfSome, IsNone, if◌then◌else◌, ◌==◌};
+ghost use Rattle.std.specs.Prelude.{◌≡◌, ◌≤◌, ◌<◌, ◌+◌, ◌-◌, ◌++◌, ◌∷◌, ◌⊎◌, [], ℕ, List, length, drop, take, true, false, None, Ok, Err, is_ok, IfOk, IfErr, OnOk, OnErr, IfSome, IsNone, if◌then◌else◌, ◌==◌};
 ghost use Rattle.tau_base.specs.declared.limits.TheConstants.{MAX_LSN, MAX_STREAMS};
 ghost use Rattle.tau_base.specs.Modes.{most_streams};
 ghost use Rattle.tau_record.specs.Record.{named, epoch_after, kind_fits};
@@ -162,6 +162,7 @@ fn declare(
 ) -> Result<(), NoMemory>
     ensures ok { OnOk result (declarations.new ≡ (if at == 0 then declared_by (text_of entry.now) else declarations.old)) }
     ensures err { OnErr result (declarations.new ≡ declarations.old) }
+    ensures kept { (at ≡ 0) ⊎ (declarations.new ≡ declarations.old) }
 {
     if at != 0 {
         return Ok(());
@@ -357,6 +358,37 @@ impl Reader {
         }
     }
 
+    /// Takes what a record declares and names, and returns where it ends.
+    fn take(&mut self, alloc: Global, next: &Next) -> Result<u64, RecordRefusal>
+        ensures past { IfOk result (λ past. past ≡ self.old.at + next.now.long) }
+        ensures declared { IfOk result (λ past. self.new.declarations ≡ (if self.old.at == 0 then declared_by (text_of next.now.entry) else self.old.declarations)) }
+        ensures check { IfOk result (λ past. is_declared self.new.declarations next.now.entry ≡ true) }
+        ensures vectors { IfOk result (λ past. self.new.vectors.items ≡ named_after self.old.vectors.items next.now.entry) }
+        ensures last { IfOk result (λ past. self.new.last ≡ epoch_after self.old.last next.now.entry) }
+        ensures bad { (fault : RecordFault) → result ≡ Err (refusals.Bad fault) → (fault ≡ record { at = self.old.at; cause = RecordCause.BadBody }) × (self.new.declarations ≡ (if self.old.at == 0 then declared_by (text_of next.now.entry) else self.old.declarations)) × (is_declared self.new.declarations next.now.entry ≡ false) }
+        ensures longer { BeginsWith self.old.vectors.items self.new.vectors.items }
+        ensures kept { (self.old.at ≡ 0) ⊎ (self.new.declarations ≡ self.old.declarations) }
+        ensures at { self.new.at ≡ self.old.at }
+        ensures rest { self.new.rest ≡ self.old.rest }
+        ensures lacks { self.new.lacks ≡ self.old.lacks }
+    {
+        match declare(alloc, &mut self.declarations, self.at, &next.entry) {
+            Ok(()) => {}
+            Err(_) => return Err(RecordRefusal::NoMemory),
+        }
+        match check(alloc, &self.declarations, self.at, &next.entry) {
+            Ok(()) => {}
+            Err(e) => return Err(e),
+        }
+        let Some(past) = past_of(self.at, next.long) else {
+            return Err(RecordRefusal::NoMemory);
+        };
+        match name(&mut self.vectors, &mut self.last, &next.entry) {
+            Ok(()) => Ok(past),
+            Err(_) => Err(RecordRefusal::NoMemory),
+        }
+    }
+
     /// Puts the record that was found at this index of the bytes after those that are read, and returns the index after it.
     fn put(
         &mut self,
@@ -376,21 +408,10 @@ impl Reader {
         ensures rest { self.new.rest ≡ self.old.rest }
         ensures lacks { self.new.lacks ≡ self.old.lacks }
     {
-        match declare(alloc, &mut self.declarations, self.at, &next.entry) {
-            Ok(()) => {}
-            Err(_) => return Err(RecordRefusal::NoMemory),
-        }
-        match check(alloc, &self.declarations, self.at, &next.entry) {
-            Ok(()) => {}
+        let past = match self.take(alloc, &next) {
+            Ok(past) => past,
             Err(e) => return Err(e),
-        }
-        let Some(past) = past_of(self.at, next.long) else {
-            return Err(RecordRefusal::NoMemory);
         };
-        match name(&mut self.vectors, &mut self.last, &next.entry) {
-            Ok(()) => {}
-            Err(_) => return Err(RecordRefusal::NoMemory),
-        }
         match records.push(Placed {
             entry: next.entry,
             start: self.at,

@@ -14,6 +14,7 @@ ghost use Rattle.tau_model.specs.Tables.{IsTablesOf};
 ghost use Rattle.tau_record.specs.declared.entry.Placed.{Placed as OnePlaced};
 ghost use Rattle.tau_follow.specs.declared.reader.Reader.{Reader as OneReader};
 ghost use Rattle.tau_scan.specs.Epochs.{marks_from, with_marks};
+ghost use Rattle.tau_scan.specs.Taken.{Kept};
 ghost use Rattle.tau_follow.specs.Applying.{stages_from, redone_of, AreSpots};
 ghost use Rattle.tau_follow.specs.Feeding.{AreRead, AreLonger, IsMarkAt, IsReadOn, AreCallsAt};
 ghost use Rattle.tau_follow.specs.Holding.{HasApplied, HasFollowed, IsTold, WasTold};
@@ -38,6 +39,7 @@ use std::mem;
 use tau_base::{Format, Listed, MAX_STREAMS, NoMemory};
 use tau_epoch::Epochs;
 use tau_model::{SerialStore, Tables};
+use tau_proc::Procs;
 use tau_record::Placed;
 use tau_scan::{LogRefusal, none_declared};
 use tau_text::Declarations;
@@ -145,6 +147,24 @@ fn applied(alloc: Global, streams: &[Listed<Placed>], applier: &Applier) -> Resu
     }
 }
 
+/// Redoes the records that stand in this order, from an index on, and returns the rows of what all did.
+fn redone(
+    alloc: Global,
+    store: &mut SerialStore,
+    procs: &Procs,
+    streams: &[Listed<Placed>],
+    order: &[Spot],
+    done: usize,
+) -> Result<Tables, NoMemory>
+    ensures ok { (kept : List Kept) → AreSpots streams.now order.now kept → done ≤ length kept → database store.old ≡ redone_of procs.now (take done kept) → OnOk result (database store.new ≡ redone_of procs.now kept) }
+    ensures rows { IfOk result (IsTablesOf (database store.new)) }
+{
+    match redo_from(store, procs, streams, order, done, &mut Vec::new(alloc)) {
+        Ok(()) => store.tables(alloc),
+        Err(e) => Err(e),
+    }
+}
+
 impl State {
     /// Nothing is fed of `n` streams.
     pub fn new(alloc: Global, n: u16) -> Result<State, NoMemory>
@@ -205,18 +225,14 @@ impl State {
             Ok(next) => next,
             Err(e) => return Err(e),
         };
-        match redo_from(
+        match redone(
+            alloc,
             &mut self.store,
             &declarations.procs,
             self.streams.as_slice(),
             next.applier.order.as_slice(),
             self.done,
-            &mut Vec::new(alloc),
         ) {
-            Ok(()) => {}
-            Err(_) => return Err(LogRefusal::NoMemory),
-        }
-        match self.store.tables(alloc) {
             Ok(tables) => {
                 self.done = next.applier.order.len();
                 self.applier = next.applier;

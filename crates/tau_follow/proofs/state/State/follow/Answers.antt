@@ -17,8 +17,8 @@ pub returns-in-Err-applied-clause-bad : goal.returns-in-Err-applied-clause-bad
 returns-in-Err-applied-clause-bad c = λ f n fed s p fault h e.
     c.in-Err-applied.ensures.bad f n fed s p fault h.follower (fronts_as f fed p _ _ c.as_slice-2.ensures.value h.read.fronts) h.stands (ap (λ (z : LogRefusal). Err z) (refusal_is c.in-Err-applied.e fault e))
 
-pub returns-in-Ok-tables-clause-ok : goal.returns-in-Ok-tables-clause-ok
-returns-in-Ok-tables-clause-ok c = λ f n fed s p h.
+pub returns-in-Ok-redone-clause-ok : goal.returns-in-Ok-redone-clause-ok
+returns-in-Ok-redone-clause-ok c = λ f n fed s p h.
     (let now = with_piece fed p in
     let d = c.in-Ok.ensures.ok in
     let first = fronts_as f fed p _ _ c.as_slice.ensures.value h.read.fronts in
@@ -31,7 +31,7 @@ returns-in-Ok-tables-clause-ok c = λ f n fed s p h.
     let spots = subst (λ (l : List (List Placed)). AreSpots l c.in-Ok-applied.next.applier.order.items t.order) (streams_then f now s t _ third w.1) w.2.spots in
     let lent = subst (λ (l : List Spot). AreSpots c.as_slice-3.result.now l t.order) (sym c.as_slice-4.ensures.value) spots in
     let procs_are : c.in-Ok.declarations.procs ≡ (declared_by d.0).procs = ap (λ (z : Declarations). z.procs) d.2 in
-    let all = c.in-Ok-redo_from.ensures.ok t.order lent before.0 (before.1 ∙ ap (λ ps. redone_of ps (take c.args.self.now.done t.order)) (sym procs_are)) in (
+    let all = c.in-Ok-redone.ensures.ok t.order lent before.0 (before.1 ∙ ap (λ ps. redone_of ps (take c.args.self.now.done t.order)) (sym procs_are)) in (
       t,
       w.1,
       record {
@@ -42,6 +42,6 @@ returns-in-Ok-tables-clause-ok c = λ f n fed s p h.
         one = one_then f fed p s t _ d.0 first d.1 w.1;
         knows = record { known = c.in-Ok-applied.ensures.known ∙ ap (λ (l : List (List Placed)). with_marks [] (marks_from l)) (c.as_slice-2.ensures.value ∙ sym (streams_then f now s t _ h.read.fronts w.1)); declarations = d.2 };
         stands = w.2;
-        redone = redone_all (declared_by d.0).procs t c.as_slice-3.result.now c.in-Ok-applied.next.applier.order.items _ _ _ spots (omega (arith, c.len-self.ensures)) (all ∙ ap (λ ps. redone_of ps t.order) procs_are) c.in-Ok-tables.ensures;
+        redone = redone_all (declared_by d.0).procs t c.as_slice-3.result.now c.in-Ok-applied.next.applier.order.items _ _ _ spots (omega (arith, c.len-self.ensures)) (all ∙ ap (λ ps. redone_of ps t.order) procs_are) c.in-Ok-redone.ensures.rows;
       },
     ))
