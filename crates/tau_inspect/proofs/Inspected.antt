@@ -3,7 +3,7 @@ use Rattle.std.proofs.Common.{ℕ, zero, suc, ◌≡◌, ◌↔◌, ◌+◌, ◌
 use Rattle.std.specs.Prelude.{Some, None, nat_le, slice_index}
 use Rattle.std.proofs.lemmas.Bool.{cases_Bool, both_ways, and_parts}
 use Rattle.std.proofs.lemmas.Bool.Decides.{nat_tests}
-use Rattle.std.proofs.lemmas.List.{append-nil}
+use Rattle.std.proofs.lemmas.List.{append-nil, drop_all}
 use Rattle.std.specs.List.{join_with_byte}
 use Rattle.tau_report.specs.Lines.{line}
 use Rattle.tau_inspect.specs.Spaced.{spaced}
@@ -15,6 +15,19 @@ use Rattle.tau_inspect.specs.Inspection.{uncovered_from, record_line, stream_lin
 pub record_more : (judge : ℕ → List ℕ) (j k : ℕ) (ps : List Placed) (i : ℕ) (d : Placed) → i < length ps →
     stream_lines judge j k (drop i ps) ≡ record_line (judge k) j (get_or ps i d) ++ stream_lines judge j (epoch_after k (get_or ps i d).entry) (drop (i + 1) ps)
 record_more judge j k ps i d lt = rw add-one (ap (λ (qs : List Placed). stream_lines judge j k qs) (drop-cons ps i d lt))
+
+-- one record more is told
+pub record_told : (judge : ℕ → List ℕ) (j k : ℕ) (ps : List Placed) (i : ℕ) (p : Placed) (lv whole out now : List ℕ) → i < length ps → p ≡ get_or ps i p → lv ≡ judge k → whole ≡ out ++ stream_lines judge j k (drop i ps) →
+    now ≡ out ++ record_line lv j p → whole ≡ now ++ stream_lines judge j (epoch_after k p.entry) (drop (i + 1) ps)
+record_told judge j k ps i p lv whole out now lt at lv_is so_far now_is =
+    so_far
+    ∙ ap (λ (l : List ℕ). out ++ l) (record_more judge j k ps i p lt ∙ ap (λ (q : Placed). record_line (judge k) j q ++ stream_lines judge j (epoch_after k q.entry) (drop (i + 1) ps)) (sym at))
+    ∙ sym (append_assoc out (record_line (judge k) j p) (stream_lines judge j (epoch_after k p.entry) (drop (i + 1) ps)))
+    ∙ ap (λ (l : List ℕ). (out ++ record_line l j p) ++ stream_lines judge j (epoch_after k p.entry) (drop (i + 1) ps)) (sym lv_is)
+    ∙ ap (λ (l : List ℕ). l ++ stream_lines judge j (epoch_after k p.entry) (drop (i + 1) ps)) (sym now_is)
+
+pub records_told : (judge : ℕ → List ℕ) (j k : ℕ) (ps : List Placed) (i : ℕ) (whole out : List ℕ) → length ps ≤ i → whole ≡ out ++ stream_lines judge j k (drop i ps) → out ≡ whole
+records_told judge j k ps i whole out le so_far = sym (so_far ∙ ap (λ (l : List Placed). out ++ stream_lines judge j k l) (drop_all i ps le) ∙ append-nil out)
 
 pub stream_more : (judge : ℕ → List ℕ) (streams : List (List Placed)) (i : ℕ) (d : List Placed) → i < length streams →
     streams_lines judge i (drop i streams) ≡ stream_lines judge i 0 (get_or streams i d) ++ streams_lines judge (i + 1) (drop (i + 1) streams)

@@ -1,5 +1,6 @@
 //! The order, followed along the records of a log.
 ghost use Rattle.std.specs.Prelude.{ℕ, ◌≡◌, ◌<◌, ◌≤◌, ◌-◌, true, length, map, All, IfOk, IfSome, IsTrue, None, is_some, slice_index, slice_index_or};
+ghost use Rattle.tau_base.specs.Database.{empty_db};
 ghost use Rattle.tau_proc.specs.Meaning.{meaning};
 ghost use Rattle.tau_proc.specs.Progress.{buffered};
 ghost use Rattle.tau_proc.specs.Takes.{takes};
@@ -386,8 +387,34 @@ fn pass_one(
     Ok(true)
 }
 
-/// Executes the order, and passes each of its calls, as long as each replies as it is told and comes next. The rows that
-/// it leaves, if all were passed and no record is left.
+/// Executes the order on no rows, and passes each of its calls, as long as each replies as it is told and comes next.
+/// Whether all were passed and no record is left.
+fn pass_all(
+    walk: &mut Walk,
+    run: &mut Run,
+    case: &LentCase<'_>,
+    acks: &[Ack<'_>],
+    ack_places: &[usize],
+    all: &[Record<'_>],
+) -> Result<bool, NoMemory>
+    requires at { IsAt all.now case.now.log.now.elv walk.old }
+    requires is { IsCase (in_case case.now) }
+    requires acks { acks.now ≡ case.now.report.now.acks }
+    requires acks_placed { HasPlaces (length case.now.load.now.calls) (map (λ a. a.0) case.now.report.now.acks) ack_places.now }
+    requires all { all.now ≡ records (in_case case.now) }
+    requires rows { database run.old.store ≡ empty_db }
+    ensures { IfOk result (λ passed. passed ≡ true → IsAt all.now case.now.log.now.elv walk.new × Walks (in_case case.now) walk.old (acts (in_case case.now)) walk.new × (database run.new.store ≡ rows_after case.now.load.now.declarations.procs case.now.load.now.calls case.now.report.now.order)) }
+{
+    for i in 0..case.report.order.len() {
+        let number = case.report.order[i];
+        if !pass_one(walk, run, case, acks, ack_places, all, number)? {
+            return Ok(false);
+        }
+    }
+    Ok(is_at_end(walk, all))
+}
+
+/// The rows that the order leaves, if each of its calls was passed and no record is left.
 fn run_along(
     alloc: Global,
     walk: &mut Walk,
@@ -409,13 +436,7 @@ fn run_along(
         places: RowPlaces::new(alloc),
         call: blank_call(),
     };
-    for i in 0..case.report.order.len() {
-        let number = case.report.order[i];
-        if !pass_one(walk, &mut run, case, acks, ack_places, all, number)? {
-            return Ok(None);
-        }
-    }
-    if !is_at_end(walk, all) {
+    if !pass_all(walk, &mut run, case, acks, ack_places, all)? {
         return Ok(None);
     }
     Ok(Some(run.store))
@@ -434,10 +455,7 @@ fn has_rows(alloc: Global, case: &LentCase<'_>, store: &SerialStore) -> Result<b
 fn copy_of(alloc: Global, numbers: &[usize]) -> Result<Vec<usize>, NoMemory>
     ensures { IfOk result (λ copy. copy.items ≡ numbers.now) }
 {
-    let mut copy = Vec::with_capacity(alloc, numbers.len())?;
-    for i in 0..numbers.len() {
-        copy.push(numbers[i])?;
-    }
+    let copy = Vec::from_slice(alloc, numbers)?;
     Ok(copy)
 }
 
@@ -477,6 +495,33 @@ fn is_cut(case: &LentCase<'_>, acks: &[Ack<'_>], ack_places: &[usize], all: &[Re
     is_one_without(case.report.order.len(), acks.len(), ack_places, all)
 }
 
+/// Whether each check was found to pass while the order was executed along the records, from a walk that has passed nothing.
+fn passes_from(
+    alloc: Global,
+    walk: &mut Walk,
+    case: &LentCase<'_>,
+    acks: &[Ack<'_>],
+    ack_places: &[usize],
+    all: &[Record<'_>],
+) -> Result<bool, NoMemory>
+    requires at { IsAt all.now case.now.log.now.elv walk.old }
+    requires is { IsCase (in_case case.now) }
+    requires acks { acks.now ≡ case.now.report.now.acks }
+    requires acks_placed { HasPlaces (length case.now.load.now.calls) (map (λ a. a.0) case.now.report.now.acks) ack_places.now }
+    requires all { all.now ≡ records (in_case case.now) }
+    requires passed { Pass (in_case case.now) (before Check.Reply) }
+    ensures { IfOk result (λ found. found ≡ true → IsVerdict (in_case case.now) Yes) }
+{
+    let first = copy_of(alloc, walk.nexts.as_slice())?;
+    let Some(store) = run_along(alloc, walk, case, acks, ack_places, all)? else {
+        return Ok(false);
+    };
+    if !is_whole_way(first.as_slice(), walk.nexts.as_slice(), all.len()) {
+        return Ok(false);
+    }
+    has_rows(alloc, case, &store)
+}
+
 /// Whether each check was found to pass while the order was executed along the records. All may pass even if that was not
 /// found.
 pub fn passes_at_once(
@@ -496,16 +541,11 @@ pub fn passes_at_once(
     if is_cut(case, acks, ack_places, all) {
         return Ok(false);
     }
-    let Some(begun) = at_start(alloc, all, &case.log.elv)? else {
-        return Ok(false);
-    };
-    let first = copy_of(alloc, begun.nexts.as_slice())?;
-    let mut walk = begun;
-    let Some(store) = run_along(alloc, &mut walk, case, acks, ack_places, all)? else {
-        return Ok(false);
-    };
-    if !is_whole_way(first.as_slice(), walk.nexts.as_slice(), all.len()) {
-        return Ok(false);
+    match at_start(alloc, all, &case.log.elv)? {
+        None => Ok(false),
+        Some(begun) => {
+            let mut walk = begun;
+            passes_from(alloc, &mut walk, case, acks, ack_places, all)
+        }
     }
-    has_rows(alloc, case, &store)
 }

@@ -1,5 +1,5 @@
 -- The next record of the lowest stream is passed.
-use Rattle.std.proofs.Common.{ℕ, suc, ◌+◌, ◌≡◌, refl, ap, ◌∙◌, arith}
+use Rattle.std.proofs.Common.{ℕ, suc, ◌+◌, ◌≡◌, refl, ap, sym, ◌∙◌, arith}
 use Rattle.std.specs.Prelude.{slice_index, slice_index_or, slice_set}
 use Rattle.tau_inspect.specs.Cases.{in_case}
 use Rattle.tau_inspect.specs.Walks.{head_of, start_or, IsFor}
@@ -19,3 +19,6 @@ returns c =
     (omega (arith, c.if-next-start.false, c.start.ensures))
     refl
     c.start-walk.ensures
+
+pub is_for-requires-clause-named : goal.is_for-requires-clause-named
+is_for-requires-clause-named c = sym c.number.ensures ∙ c.if-number.false

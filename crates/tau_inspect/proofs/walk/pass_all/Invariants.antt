@@ -6,7 +6,7 @@ use Rattle.tau_inspect.specs.Audit.{acts}
 use Rattle.tau_inspect.specs.Cases.{in_case}
 use Rattle.tau_inspect.specs.Executed.{rows_after}
 use Rattle.tau_inspect.specs.Walks.{IsAt, Walks}
-use Rattle.tau_inspect.proofs.walk.run_along.Given as goal
+use Rattle.tau_inspect.proofs.walk.pass_all.Given as goal
 
 abbrev pub invariant-loop-i : goal.invariant-loop-i
 invariant-loop-i l = record {
