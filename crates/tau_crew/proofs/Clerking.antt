@@ -1,5 +1,5 @@
 -- What the clerk tells, line by line and pass by pass.
-use Rattle.std.proofs.Common.{ℕ, ◌+◌, ◌<◌, ◌≡◌, inl, inr, Bool, true, false, List, [], ◌∷◌, ◌++◌, length, take, refl, sym, ap, subst, ◌∙◌, append_assoc, arith}
+use Rattle.std.proofs.Common.{ℕ, ◌+◌, ◌<◌, ◌≤◌, ◌≡◌, ◌⊎◌, inl, inr, Bool, true, false, List, [], ◌∷◌, ◌++◌, length, take, refl, sym, ap, subst, ◌∙◌, append_assoc, arith}
 use Rattle.std.specs.Prelude.{None, Some}
 use Rattle.std.proofs.lemmas.List.{append-nil, take-append-le, take_all}
 use Rattle.std.proofs.Math.Seq.{take-append-add, take-append_seam}
@@ -26,6 +26,9 @@ use Rattle.tau_crew_facts.specs.Telling.{IsTelling}
 use Rattle.tau_crew_facts.proofs.Telling.{pending_own, telling_more}
 use Rattle.tau_crew.specs.declared.told.Told.{Told}
 use Rattle.tau_crew.specs.Gathering.{raised_in}
+use Rattle.tau_disk.specs.Disk.{Rose}
+use Rattle.tau_crew.specs.declared.clerk.ClerkJob.{ClerkJob}
+use Rattle.tau_crew.specs.ClerkJobs.{ClerkGoes}
 use Rattle.tau_crew.specs.Clerking.{Acknowledges, IsSameClerk, IsSoFar, all_told, with_missing}
 use Rattle.tau_base.proofs.Logic.{up_to_or_above}
 use Rattle.tau_run.specs.Heard.{HeardFront}
@@ -168,3 +171,11 @@ acknowledges_missing origin s s' w call t t' c opened lt a none same missing lin
       (subst (λ (l : List ℕ). IsSoFar base t'.acks l t.sink_failed held) (sym lines) (subst (λ (xs : List (ℕ × List ℕ)). IsSoFar base xs t.lines.items t.sink_failed held) (sym same) h));
   sink = sink;
 }
+
+pub clerk_goes_on : (l : Load) (a b c : ClerkJob) → ClerkGoes l a b → ClerkGoes l b c → ClerkGoes l a c
+clerk_goes_on l a b c p q = record { tells = λ t. q.tells (p.tells t); same = same_on a.seat b.seat c.seat p.same q.same }
+
+-- a sink that had a cause to fail has one after more was written
+pub cause_then : {A B : Type 0} (f0 f1 f2 : ℕ) → (B → A ⊎ Rose f0 f1) → f0 ≤ f1 → f1 ≤ f2 → B ⊎ Rose f1 f2 → A ⊎ Rose f0 f2
+cause_then f0 f1 f2 before up more (inl b) = elim (before b) [ inl a ↦ inl a | inr r ↦ inr (omega (arith, r, more)) ]
+cause_then f0 f1 f2 before up more (inr r) = inr (omega (arith, r, up))
