@@ -7,6 +7,9 @@ ghost use Rattle.tau_scan.specs.declared.fault.LogFault.{LogFault};
 ghost use Rattle.tau_scan.specs.declared.fault.ScanRefusal.{ScanRefusal};
 ghost use Rattle.tau_scan.specs.Outside.{AreSettled, AreSynced, StopsSettling};
 ghost use Rattle.tau_scan.specs.Reading.{HasRead, IsLog};
+ghost use Rattle.tau_ckpt.specs.Chosen.{next_write};
+ghost use Rattle.tau_ckpt.specs.declared.checkpoint.TheConstants.{MAX_NUMBER};
+ghost use Rattle.tau_ckpt.specs.declared.slots.Slots.{Slots as HeldSlots};
 ghost use Rattle.tau_ckpt.specs.declared.slots.TheConstants.{SLOTS};
 ghost use Rattle.tau_commands.specs.declared.disks.TheConstants.{DISKS};
 ghost use Rattle.tau_commands.specs.Checkpoints.{HasEnded, OfCheckpoint, checkpoint_text};
@@ -151,7 +154,7 @@ fn settle_all<D: Disk>(
 }
 
 /// A checkpoint that is ready to be written, and the text that is told then.
-#[derive(Debug, Drop)]
+#[derive(Drop)]
 struct Ready {
     slot: u8,
     value: Checkpoint,
@@ -171,6 +174,42 @@ fn checkpoint_text(alloc: Global, next: NextWrite, rows: usize) -> Result<Vec<u8
     Ok(text)
 }
 
+/// The checkpoint of this log that is written next, redone by so many workers.
+fn make_next<R: Threads + Wait + Sync, G: Gate + Sync>(
+    rt: &R,
+    alloc: Global,
+    log: &Log,
+    next: NextWrite,
+    workers: u8,
+    gate: &G,
+) -> Result<Ready, Status>
+    requires log { IsLog log.now }
+    requires workers { (1 ≤ workers) × (workers ≤ MAX_RECOVERY_WORKERS) }
+    requires slot { next.slot ≤ 1 }
+    requires low { 1 ≤ next.number }
+    requires high { next.number ≤ MAX_NUMBER }
+    ensures ready { (slots : HeldSlots) → next_write slots ≡ Ok next → IfOk result (λ ready. IsReadyOf (record { log = log.now; slots = slots }) ready) }
+    ensures refused { (slots : HeldSlots) → next_write slots ≡ Ok next → IfErr result (λ status. RefusesToMake (record { log = log.now; slots = slots }) status) }
+{
+    let rows = match replay_threads(rt, alloc, log, workers, gate) {
+        Ok(rows) => rows,
+        Err(ReplayRefusal::NoMemory) => return Err(Status::NoMemory),
+        Err(ReplayRefusal::Tangled { stream, at }) => {
+            let cause = LogCause::Tangled { at };
+            return Err(Status::BadLog(LogFault { stream, cause }));
+        }
+    };
+    let Ok(text) = checkpoint_text(alloc, next, rows.rows().len()) else {
+        return Err(Status::NoMemory);
+    };
+    let value = checkpoint_at(log, next.number, rows);
+    Ok(Ready {
+        slot: next.slot,
+        value,
+        text,
+    })
+}
+
 /// The checkpoint of what was found, redone by so many workers. What was found is dropped as soon as it has served.
 fn make<R: Threads + Wait + Sync, G: Gate + Sync>(
     rt: &R,
@@ -185,29 +224,20 @@ fn make<R: Threads + Wait + Sync, G: Gate + Sync>(
     ensures refused { IfErr result (λ status. RefusesToMake found status) }
 {
     let Found { log, slots } = found;
-    let next = match slots.next_write() {
-        Ok(next) => next,
-        Err(fault) => return Err(Status::BadLog(fault)),
-    };
+    let next = slots.next_write();
     // The rows of the old checkpoints make room for those of the new one.
     drop(slots);
-    let rows = match replay_threads(rt, alloc, &log, workers, gate) {
-        Ok(rows) => rows,
-        Err(ReplayRefusal::NoMemory) => return Err(Status::NoMemory),
-        Err(ReplayRefusal::Tangled { stream, at }) => {
-            let cause = LogCause::Tangled { at };
-            return Err(Status::BadLog(LogFault { stream, cause }));
+    match next {
+        Ok(next) => {
+            let ready = make_next(rt, alloc, &log, next, workers, gate);
+            drop(log);
+            ready
         }
-    };
-    let Ok(text) = checkpoint_text(alloc, next, rows.rows().len()) else {
-        return Err(Status::NoMemory);
-    };
-    let value = checkpoint_at(&log, next.number, rows);
-    Ok(Ready {
-        slot: next.slot,
-        value,
-        text,
-    })
+        Err(fault) => {
+            drop(log);
+            Err(Status::BadLog(fault))
+        }
+    }
 }
 
 /// Writes a checkpoint into its slot, and then tells of it.
@@ -251,7 +281,11 @@ fn make_and_put<R: Threads + Wait + Sync, D: Disk, K: Sink, G: Gate + Sync>(
     ensures { MakesAndPuts ⟦<D as Disk>⟧ found slots.old slots.new (Wrote K.tells (K.held sink.old) (K.held sink.new)) (Rose (K.faults sink.old) (K.faults sink.new)) result }
 {
     match make(rt, alloc, found, workers, gate) {
-        Ok(ready) => put(alloc, &ready, slots, sink),
+        Ok(ready) => {
+            let status = put(alloc, &ready, slots, sink);
+            drop(ready);
+            status
+        }
         Err(refusal) => refuse(alloc, sink, refusal),
     }
 }

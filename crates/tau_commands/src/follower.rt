@@ -199,7 +199,9 @@ fn follow_text(
     let Ok(mut follower) = Follower::new(alloc, fed_format(n), n) else {
         return Err(FollowRefusal::NoMemory);
     };
-    feed_and_seal(alloc, &mut follower, streams, text, lines)
+    let told = feed_and_seal(alloc, &mut follower, streams, text, lines);
+    drop(follower);
+    told
 }
 
 // Writes these lines and then that of a refusal, and returns with its status, or for lack of memory with NoMemory and

@@ -178,7 +178,11 @@ pub fn restore<R: Threads + Wait + Sync, D: Disk, K: Sink, G: Gate + Sync>(
 {
     let (front, slots) = disks.split_at_mut(MAX_STREAMS);
     match read_all(alloc, streams, front, slots) {
-        Ok(found) => tell_found(rt, alloc, &found, workers, sink, gate),
+        Ok(found) => {
+            let status = tell_found(rt, alloc, &found, workers, sink, gate);
+            drop(found);
+            status
+        }
         Err(refusal) => refuse(alloc, sink, refusal),
     }
 }

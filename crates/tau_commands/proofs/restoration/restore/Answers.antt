@@ -14,20 +14,20 @@ returns-in-Ok g c =
     let first : length c.split_at_mut-front.result.0.now ≡ MAX_STREAMS = omega (arith, c.split_at_mut-front.ensures.front_len, c.requires.there) in
     let all = finds_at c.args.disks.now c.split_at_mut-front.result.0.now c.split_at_mut-front.result.1.now c.split_at_mut-front.ensures.value first g.D.Disk (OnlyRead g.D.Disk.tells g.D.Disk.seen g.D.Disk.may_leave g.D.Disk.moment g.D.Disk.may_leave_since) (WasReadWhole g.D.Disk) c.args.streams c.read_all.new.front c.read_all.new.slots c.read_all.result c.read_all.ensures in
     let few : length c.read_all.new.slots ≡ 2 = omega (arith, c.read_all.auto.slots, c.split_at_mut-front.ensures.back_len, c.requires.there) in
-    let o : Output = record { hears = g.K.Sink.tells; held = g.K.Sink.held c.args.sink.now; held' = g.K.Sink.held c.tell_found.new.sink; faults = g.K.Sink.faults c.args.sink.now; faults' = g.K.Sink.faults c.tell_found.new.sink } in
-    let told : TellsFound c.in-Ok.found (Wrote o.hears o.held o.held') (Rose o.faults o.faults') c.tell_found.result =
+    let o : Output = record { hears = g.K.Sink.tells; held = g.K.Sink.held c.args.sink.now; held' = g.K.Sink.held c.tell_found-status.new.sink; faults = g.K.Sink.faults c.args.sink.now; faults' = g.K.Sink.faults c.tell_found-status.new.sink } in
+    let told : TellsFound c.in-Ok.found (Wrote o.hears o.held o.held') (Rose o.faults o.faults') c.tell_found-status.result =
     record {
-      kind = c.tell_found.ensures.kind;
-      no_disk = c.tell_found.ensures.no_disk;
-      told = c.tell_found.ensures.told;
-      refusal = c.tell_found.ensures.refusal;
-      tangled = c.tell_found.ensures.tangled;
-      sink = c.tell_found.ensures.write_fault;
+      kind = c.tell_found-status.ensures.kind;
+      no_disk = c.tell_found-status.ensures.no_disk;
+      told = c.tell_found-status.ensures.told;
+      refusal = c.tell_found-status.ensures.refusal;
+      tangled = c.tell_found-status.ensures.tangled;
+      sink = c.tell_found-status.ensures.write_fault;
     } in
     record {
-      ended = found_ended g.D.Disk c.args.streams c.requires.high c.args.disks.now c.read_all.new.front c.read_all.new.slots c.requires.there long few c.read_all.result all o c.in-Ok.found c.tell_found.result c.in-Ok.is told;
-      read = found_read g.D.Disk c.args.streams c.requires.high c.args.disks.now c.read_all.new.front c.read_all.new.slots c.requires.there long few c.read_all.result all o c.in-Ok.found c.tell_found.result c.in-Ok.is told;
-      of = found_of g.D.Disk c.args.streams c.requires.high c.args.disks.now c.read_all.new.front c.read_all.new.slots c.requires.there long few c.read_all.result all o c.in-Ok.found c.tell_found.result c.in-Ok.is told;
+      ended = found_ended g.D.Disk c.args.streams c.requires.high c.args.disks.now c.read_all.new.front c.read_all.new.slots c.requires.there long few c.read_all.result all o c.in-Ok.found c.tell_found-status.result c.in-Ok.is told;
+      read = found_read g.D.Disk c.args.streams c.requires.high c.args.disks.now c.read_all.new.front c.read_all.new.slots c.requires.there long few c.read_all.result all o c.in-Ok.found c.tell_found-status.result c.in-Ok.is told;
+      of = found_of g.D.Disk c.args.streams c.requires.high c.args.disks.now c.read_all.new.front c.read_all.new.slots c.requires.there long few c.read_all.result all o c.in-Ok.found c.tell_found-status.result c.in-Ok.is told;
     }
 
 pub returns-in-Err : goal.returns-in-Err
