@@ -366,6 +366,28 @@ fn measure_on<R: Threads + Wait + Sync, G: Gate + Sync>(
     measured_text(alloc, &load.declarations, job.calls, acked, &rows, &again)
 }
 
+/// Makes new disks for the generated calls and runs these on them, recovers them, and says what came of both.
+fn measure_load<R: Threads + Wait + Sync, G: Gate + Sync>(
+    rt: &R,
+    alloc: Global,
+    load: &Workload,
+    job: Job,
+    gate: &G,
+) -> Result<String, NoMemory>
+    requires start { job.start ≤ 999 }
+    requires calls { job.calls ≤ MAX_CALLS }
+    requires streams_low { 1 ≤ job.streams }
+    requires streams_high { job.streams ≤ MAX_COUNT }
+    requires low { 1 ≤ job.workers }
+    requires high { job.workers ≤ MAX_COUNT }
+    requires load { load.now ≡ generated job.start job.calls }
+    ensures { IfOk result (λ text. string_bytes text ≡ bench_text job.start job.calls) }
+{
+    let mut disks = new_disks(alloc, job.streams)?;
+    let mut out = MemSink::new(alloc, &[])?;
+    measure_on(rt, alloc, load, job, &mut out, &mut disks, gate)
+}
+
 /// Runs the generated calls, recovers them, and says what came of both.
 fn measure<R: Threads + Wait + Sync, G: Gate + Sync>(
     rt: &R,
@@ -382,9 +404,9 @@ fn measure<R: Threads + Wait + Sync, G: Gate + Sync>(
     ensures { IfOk result (λ text. string_bytes text ≡ bench_text job.start job.calls) }
 {
     let load = generate(alloc, job.start, job.calls)?;
-    let mut disks = new_disks(alloc, job.streams)?;
-    let mut out = MemSink::new(alloc, &[])?;
-    measure_on(rt, alloc, &load, job, &mut out, &mut disks, gate)
+    let text = measure_load(rt, alloc, &load, job, gate);
+    drop(load);
+    text
 }
 
 /// Does the measured job: runs the generated calls by so many workers on so many new disks in memory, recovers from

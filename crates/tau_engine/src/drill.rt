@@ -4,7 +4,8 @@ ghost use Rattle.std.specs.List.{filter, list_any};
 ghost use Rattle.tau_base.specs.declared.limits.TheConstants.{MAX_CATALOGUE};
 ghost use Rattle.tau_base.specs.declared.format.Format.TheVariants.{One};
 ghost use Rattle.tau_disk.specs.Disk.{Rose};
-ghost use Rattle.tau_disk.specs.Memory.{is_short_by, seen_by};
+ghost use Rattle.tau_disk.specs.Memory.{is_short_by, seen_by, state_of};
+ghost use Rattle.tau_disk.specs.Tear.{image_by};
 ghost use Rattle.tau_disk.specs.Streams.{held_by};
 ghost use Rattle.tau_disk.specs.Used.{AreEmpty};
 ghost use Rattle.tau_model.specs.History.{Member};
@@ -215,6 +216,14 @@ fn calls_of(disks: &[MemDisk]) -> Result<u64, NoMemory>
     Ok(count)
 }
 
+/// A disk that holds the image which a stop leaves of this one.
+fn image_of(alloc: Global, disk: &MemDisk, tear: Tear) -> Result<MemDisk, NoMemory>
+    ensures { IfOk result (λ image. seen_by image ≡ image_by (state_of disk.now) tear) }
+{
+    let image = disk.image(tear)?;
+    MemDisk::of_image(alloc, &image)
+}
+
 /// Disks that hold the images which a stop leaves of these.
 fn images_of(alloc: Global, disks: &[MemDisk], tear: Tear) -> Result<Vec<MemDisk>, NoMemory>
     ensures held { IfOk result (λ images. map seen_by images.items ≡ images_by tear disks.now) }
@@ -222,9 +231,7 @@ fn images_of(alloc: Global, disks: &[MemDisk], tear: Tear) -> Result<Vec<MemDisk
 {
     let mut images = Vec::new(alloc);
     for disk in disks {
-        let image = disk.image(tear)?;
-        let held = MemDisk::of_image(alloc, &image)?;
-        images.push(held)?;
+        images.push(image_of(alloc, disk, tear)?)?;
     }
     Ok(images)
 }
@@ -416,6 +423,41 @@ fn with_turns(alloc: Global, load: Workload) -> Workload
 
 /// Runs a workload by turns on disks of its own that fail as told, and writes its acknowledgements, how many calls of
 /// the disks were counted, and what recovery finds on the images.
+fn drill_load<R: Threads + Wait + Sync, K: Sink, G: Gate + Sync>(
+    rt: &R,
+    alloc: Global,
+    load: &Workload,
+    streams: u8,
+    workers: u8,
+    ending: Ending,
+    sink: &mut K,
+    gate: &G,
+) -> Status
+    requires streams_low { 1 ≤ streams }
+    requires streams_high { streams ≤ MAX_COUNT }
+    requires low { 1 ≤ workers }
+    requires high { workers ≤ MAX_COUNT }
+    requires sound { IsSoundLoad load.now }
+    requires calls { AreCalls load.now.declarations.procs load.now.calls }
+    requires ending { is_ending streams ending ≡ true }
+    ensures told { DrillTells ⟦<MemDisk as Disk>⟧ streams workers ending load.now (Wrote K.tells (K.held sink.old) (K.held sink.new)) result }
+    ensures kind { ends_rehearsal result ≡ true }
+    ensures write_fault { result ≡ Status.WriteFault → Rose (K.faults sink.old) (K.faults sink.new) }
+{
+    let Ok(mut out) = MemSink::new(alloc, &[]) else {
+        return Status::NoMemory;
+    };
+    match drill_by(rt, alloc, load, streams, workers, ending, &mut out, gate) {
+        Ok(()) => {}
+        Err(_) => return Status::NoMemory,
+    }
+    match write_all(sink, out.bytes()) {
+        Ok(()) => Status::Ok,
+        Err(_) => Status::WriteFault,
+    }
+}
+
+/// The same of a workload that may have no turns.
 fn drill<R: Threads + Wait + Sync, K: Sink, G: Gate + Sync>(
     rt: &R,
     alloc: Global,
@@ -438,17 +480,9 @@ fn drill<R: Threads + Wait + Sync, K: Sink, G: Gate + Sync>(
     ensures write_fault { result ≡ Status.WriteFault → Rose (K.faults sink.old) (K.faults sink.new) }
 {
     let load = with_turns(alloc, load);
-    let Ok(mut out) = MemSink::new(alloc, &[]) else {
-        return Status::NoMemory;
-    };
-    match drill_by(rt, alloc, &load, streams, workers, ending, &mut out, gate) {
-        Ok(()) => {}
-        Err(_) => return Status::NoMemory,
-    }
-    match write_all(sink, out.bytes()) {
-        Ok(()) => Status::Ok,
-        Err(_) => Status::WriteFault,
-    }
+    let status = drill_load(rt, alloc, &load, streams, workers, ending, sink, gate);
+    drop(load);
+    status
 }
 
 /// The drill of the workload that the source holds.
